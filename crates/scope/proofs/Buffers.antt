@@ -1,0 +1,39 @@
+-- What the records on buffers determine: two lists that one record allows are equal, element by element.
+use Prim.Native.Nat.{ℕ, _<_, _≤_}
+use mathlib.Core.Path.{_≡_, sym, _∙_}
+use mathlib.Core.Logic.{_⊎_, inl, inr}
+use mathlib.Core.List.{List}
+use native.Mathlib.Omega.{arith}
+use lib.ListN.{getD}
+use lib.Seq.{ext-getD}
+use Rattle.scope.specs.Buffers.{Written, TailKept, Cleared, Untouched}
+use Rattle.scope.proofs.Tests.{split}
+
+pub written-one : {n : ℕ} {f : ℕ → ℕ} {old a b : List ℕ} → Written n f old a → Written n f old b → a ≡ b
+written-one {n} {f} {old} {a} {b} u v = ext-getD 0 a b (u .size ∙ sym (v .size)) (λ i h. at i (split i n))
+  where
+    at : (i : ℕ) → (i < n) ⊎ (n ≤ i) → getD a i 0 ≡ getD b i 0
+    at i (inl k) = u .inside i k ∙ sym (v .inside i k)
+    at i (inr k) = u .outside i k ∙ sym (v .outside i k)
+
+-- where nothing is written, all is kept
+pub written-none : {f : ℕ → ℕ} {old new : List ℕ} → Written 0 f old new → new ≡ old
+written-none {f} {old} {new} u = ext-getD 0 new old (u .size) (λ i h. u .outside i (omega arith))
+
+-- the first n elements, and what is kept of the rest
+pub tail-one : {n : ℕ} {old a b : List ℕ} → TailKept n old a → TailKept n old b → ((i : ℕ) → i < n → getD a i 0 ≡ getD b i 0) → a ≡ b
+tail-one {n} {old} {a} {b} u v e = ext-getD 0 a b (u .size ∙ sym (v .size)) (λ i h. at i (split i n))
+  where
+    at : (i : ℕ) → (i < n) ⊎ (n ≤ i) → getD a i 0 ≡ getD b i 0
+    at i (inl k) = e i k
+    at i (inr k) = u .outside i k ∙ sym (v .outside i k)
+
+-- both parts of the scratch
+abbrev pub Alike : List ℕ → List ℕ → List ℕ → List ℕ → Type 0
+Alike a b c d = (a ≡ b) × (c ≡ d)
+
+pub cleared-one : {x a b y c d : List ℕ} → Cleared x a y c → Cleared x b y d → Alike a b c d
+cleared-one u v = (written-one (u .bytes-zero) (v .bytes-zero), written-one (u .words-zero) (v .words-zero))
+
+pub untouched-one : {x a b y c d : List ℕ} → Untouched x a y c → Untouched x b y d → Alike a b c d
+untouched-one u v = (u .bytes-kept ∙ sym (v .bytes-kept), u .words-kept ∙ sym (v .words-kept))

@@ -1,0 +1,171 @@
+-- Compiling is determined. The judgements 1 to 8 and Done stand in an order and each has one answer, so number and place are one; two results with one answer
+-- have one constructor, whose records fix each byte. A text has one tree, and two canonical rooms for the same strings have the same bytes.
+--   classes-apart, sets-apart: over a limit and within it exclude each other
+--   one-language: two machines for one language accept the same strings
+--   determined: two results of one call are equal, with every byte of every buffer
+use Prim.Native.Nat.{ℕ, _<_, _≤_}
+use mathlib.Core.Path.{_≡_, refl, sym, ap, subst, _∙_}
+use mathlib.Core.Logic.{inl, inr}
+use mathlib.Core.List.{List, [], _∷_}
+use native.Mathlib.Omega.{arith}
+use lib.ListN.{length}
+use Rattle.scope.specs.Answers.{ROOM, LONG, SYNTAX, RANGE, DEPTH, POSITIONS, CLASSES, STATES, DONE}
+use Rattle.scope.specs.Limits.{patternLimit, nestLimit, positionLimit, byteValues, classLimit, stateLimit}
+use Rattle.scope.specs.Re.{Re, Words}
+use Rattle.scope.specs.Tree.{Tree, expr, falling, opened, places}
+use Rattle.scope.specs.Judge.{Pattern, SyntaxAt, Beyond, RangeAt, Ordered, DepthAt, Shallow, PositionAt}
+use Rattle.scope.specs.Reached.{Share, ReachedSet, ManyClasses, FewClasses, ManySets, FewSets}
+use Rattle.scope.specs.Machine.{Machine, Equal, Recognises}
+use Rattle.scope.specs.Room.{machine}
+use Rattle.scope.specs.Compile.{CompileLent, Fits, Sized, CompileRefused, Compiles, no-room, too-long, no-syntax, falls, too-deep, too-many, many-classes, many-sets, compiled}
+use Rattle.scope.proofs.Tests.{same-test}
+use Rattle.scope.proofs.Buffers.{cleared-one, untouched-one, tail-one}
+use Rattle.scope.proofs.Count.{over-within}
+use Rattle.scope.proofs.Judge.{syntax-one, beyond-one}
+use Rattle.scope.proofs.Tree.{one-tree}
+use Rattle.scope.proofs.Unique.{unique}
+use Rattle.scope.proofs.Determined.{Judged, Single, judged-one}
+
+-- over 64 pattern classes and at most 64 exclude each other
+pub classes-apart : (e : Re) → ManyClasses e → FewClasses e → ⊥
+classes-apart e = over-within (λ (b : ℕ). b < byteValues) (Share e) (λ x y p. sym p) (λ x y z p q. p ∙ q) classLimit
+
+-- over 128 reached sets and at most 128 exclude each other
+pub sets-apart : (e : Re) → ManySets e → FewSets e → ⊥
+sets-apart e = over-within (ReachedSet e) (λ (s t : ℕ). s ≡ t) (λ x y p. sym p) (λ x y z p q. p ∙ q) stateLimit
+
+-- two machines for one language accept the same strings
+pub one-language : (M N : Machine) (L : List ℕ → Type 0) → Recognises M L → Recognises N L → Equal M N
+one-language M N L a b w g = same-test _ _ (λ e. b w g .1 (a w g .0 e)) (λ e. a w g .1 (b w g .0 e))
+
+-- number and place
+abbrev Answer : Type 0
+Answer = ℕ × ℕ
+
+module _ (text room bytes words : List ℕ) where
+  -- ---- the judgements in their order
+
+  -- a judgement of the tree, with a place; of the tree alone
+  abbrev With : (Tree → ℕ → Type 0) → ℕ → Answer → Type 0
+  With P n r = (i : ℕ) × (t : Tree) × (r ≡ (n, i)) × Pattern text t × P t i
+
+  abbrev Whole : (Tree → Type 0) → ℕ → Answer → Type 0
+  Whole P n r = (t : Tree) × (r ≡ (n, 0)) × Pattern text t × P t
+
+  abbrev from8 : List (Answer → Type 0)
+  from8 = Whole (λ t. ManySets (expr t)) STATES ∷ (λ r. r ≡ (DONE, 0)) ∷ []
+
+  abbrev from7 : List (Answer → Type 0)
+  from7 = Whole (λ t. ManyClasses (expr t)) CLASSES ∷ from8
+
+  abbrev from6 : List (Answer → Type 0)
+  from6 = With PositionAt POSITIONS ∷ from7
+
+  abbrev from5 : List (Answer → Type 0)
+  from5 = With DepthAt DEPTH ∷ from6
+
+  abbrev from4 : List (Answer → Type 0)
+  from4 = With RangeAt RANGE ∷ from5
+
+  abbrev from3 : List (Answer → Type 0)
+  from3 = (λ r. (i : ℕ) × (r ≡ (SYNTAX, i)) × SyntaxAt text i) ∷ from4
+
+  abbrev from2 : List (Answer → Type 0)
+  from2 = (λ r. (r ≡ (LONG, 0)) × (patternLimit < length text)) ∷ from3
+
+  abbrev judgements : List (Answer → Type 0)
+  judgements = (λ r. (r ≡ (ROOM, 0)) × (CompileLent room bytes words → ⊥)) ∷ from2
+
+  -- ---- each has one answer
+
+  placed : (l : Tree → List ℕ) (n : ℕ) (C : ℕ) (a b : Answer) → With (λ t i. Beyond (l t) n i) C a → With (λ t i. Beyond (l t) n i) C b → a ≡ b
+  placed l n C a b (i, t, e, p, x) (j, u, f, q, y) = e ∙ ap (λ (k : ℕ). (C, k)) (beyond-one (l t) n i j x (rw (one-tree text t u p q) y)) ∙ sym f
+
+  single7 : Single from7
+  single7 = (λ a b x y. x .1 ∙ sym (y .1), (λ a b x y. x .1 ∙ sym (y .1), (λ a b x y. x ∙ sym y, tt)))
+
+  single4 : Single from4
+  single4 = (placed falling 0 RANGE, (placed (opened nestLimit) 0 DEPTH, (placed places positionLimit POSITIONS, single7)))
+
+  single3 : Single from3
+  single3 = (λ a b x y. x .1 ∙ ap (λ (k : ℕ). (SYNTAX, k)) (syntax-one text _ _ (x .2) (y .2)) ∙ sym (y .1), single4)
+
+  single : Single judgements
+  single = (λ a b x y. x .0 ∙ sym (y .0), (λ a b x y. x .0 ∙ sym (y .0), single3))
+
+  -- ---- a judgement that is passed applies to nothing
+
+  past-place : (l : Tree → List ℕ) (n : ℕ) (C : ℕ) (t : Tree) → Pattern text t → length (l t) ≤ n → (x : Answer) → With (λ t i. Beyond (l t) n i) C x → ⊥
+  past-place l n C t p h x (i, u, e, q, b) = let k : length (l u) ≤ n = subst (λ (v : Tree). length (l v) ≤ n) (one-tree text t u p q) h in omega (arith, b .more)
+
+  module _ {r : Answer} where
+    past1 : CompileLent room bytes words → Judged from2 r → Judged judgements r
+    past1 l j = inr (λ x p. p .1 l, j)
+
+    past2 : Fits text room bytes words → Judged from3 r → Judged judgements r
+    past2 y j = past1 (y .lent) (inr (λ x p. omega (arith, p .1, y .short), j))
+
+    past3 : {t : Tree} → Fits text room bytes words → Pattern text t → Judged from4 r → Judged judgements r
+    past3 {t} y p j = past2 y (inr (λ x q. q .2 .illegal (record { tree = t; reads = p }), j))
+
+    past4 : {t : Tree} → Fits text room bytes words → Pattern text t → Ordered t → Judged from5 r → Judged judgements r
+    past4 {t} y p o j = past3 y p (inr (past-place falling 0 RANGE t p o, j))
+
+    past5 : {t : Tree} → Fits text room bytes words → Pattern text t → Ordered t → Shallow t → Judged from6 r → Judged judgements r
+    past5 {t} y p o d j = past4 y p o (inr (past-place (opened nestLimit) 0 DEPTH t p d, j))
+
+    past6 : {t : Tree} → Fits text room bytes words → Sized text t → Judged from7 r → Judged judgements r
+    past6 {t} y z j = past5 y (z .pattern) (z .ordered) (z .shallow) (inr (past-place places positionLimit POSITIONS t (z .pattern) (z .brief), j))
+
+    past7 : {t : Tree} → Fits text room bytes words → Sized text t → FewClasses (expr t) → Judged from8 r → Judged judgements r
+    past7 {t} y z c j = past6 y z (inr (classes, j))
+      where
+        classes : (x : Answer) → Whole (λ t. ManyClasses (expr t)) CLASSES x → ⊥
+        classes x (u, e, q, m) = classes-apart (expr u) m (subst (λ (v : Tree). FewClasses (expr v)) (one-tree text t u (z .pattern) q) c)
+
+  past8 : {t : Tree} → Fits text room bytes words → Sized text t → FewClasses (expr t) → FewSets (expr t) → Judged judgements (DONE, 0)
+  past8 {t} y z c f = past7 y z c (inr (sets, inl refl))
+    where
+      sets : (x : Answer) → Whole (λ t. ManySets (expr t)) STATES x → ⊥
+      sets x (u, e, q, m) = sets-apart (expr u) m (subst (λ (v : Tree). FewSets (expr v)) (one-tree text t u (z .pattern) q) f)
+
+  chain : {room′ bytes′ words′ : List ℕ} {n i : ℕ} → Compiles text room room′ bytes bytes′ words words′ n i → Judged judgements (n, i)
+  chain (no-room h k t) = inl (refl, h)
+  chain (too-long l h f) = past1 l (inl (refl, h))
+  chain (no-syntax {i} y s f) = past2 y (inl (i, refl, s))
+  chain (falls {i} {t} y p x f) = past3 y p (inl (i, t, refl, p, x))
+  chain (too-deep {i} {t} y p o x f) = past4 y p o (inl (i, t, refl, p, x))
+  chain (too-many {i} {t} y p o d x f) = past5 y p o d (inl (i, t, refl, p, x))
+  chain (many-classes {t} y z m f) = past6 y z (inl (t, refl, z .pattern, m))
+  chain (many-sets {t} y z c m f) = past7 y z c (inl (t, refl, z .pattern, m))
+  chain (compiled y z c m k e h f) = past8 y z c m
+
+-- ---- one answer, one result
+
+-- the rooms and the scratch
+abbrev Alike : List ℕ → List ℕ → List ℕ → List ℕ → List ℕ → List ℕ → Type 0
+Alike u v b c w x = (u ≡ v) × (b ≡ c) × (w ≡ x)
+
+refused-one : {room u v bytes b c words w x : List ℕ} → CompileRefused room u bytes b words w → CompileRefused room v bytes c words x → Alike u v b c w x
+refused-one f g = let z = cleared-one (f .cleared) (g .cleared) in (f .kept ∙ sym (g .kept), z .0, z .1)
+
+module _ {text room u v bytes b c words w x : List ℕ} where
+  after-one : {n i : ℕ} → Compiles text room u bytes b words w n i → Compiles text room v bytes c words x n i → Alike u v b c w x
+  after-one (no-room h k t) (no-room h′ k′ t′) = let z = untouched-one t t′ in (k ∙ sym k′, z .0, z .1)
+  after-one (too-long l h f) (too-long l′ h′ f′) = refused-one f f′
+  after-one (no-syntax y s f) (no-syntax y′ s′ f′) = refused-one f f′
+  after-one (falls y p i f) (falls y′ p′ i′ f′) = refused-one f f′
+  after-one (too-deep y p o i f) (too-deep y′ p′ o′ i′ f′) = refused-one f f′
+  after-one (too-many y p o d i f) (too-many y′ p′ o′ d′ i′ f′) = refused-one f f′
+  after-one (many-classes y z m f) (many-classes y′ z′ m′ f′) = refused-one f f′
+  after-one (many-sets y z m n f) (many-sets y′ z′ m′ n′ f′) = refused-one f f′
+  after-one (compiled {t} y s m n k e h f) (compiled {t = t′} y′ s′ m′ n′ k′ e′ h′ f′) =
+      let e″ : Recognises (machine v) (Words (expr t)) = rw (one-tree text t t′ (s .pattern) (s′ .pattern)) e′ in
+      let z = cleared-one f f′ in
+      (tail-one h h′ (unique u v k k′ (one-language (machine u) (machine v) (Words (expr t)) e e″)), z .0, z .1)
+
+  -- two results of one call: the numbers and places, the rooms, the scratch
+  pub determined : {n m i j : ℕ} → Compiles text room u bytes b words w n i → Compiles text room v bytes c words x m j → (n ≡ m) × (i ≡ j) × Alike u v b c w x
+  determined {n} {m} {i} {j} a d =
+      let e = judged-one (judgements text room bytes words) (single text room bytes words) (n, i) (m, j) (chain text room bytes words a) (chain text room bytes words d) in
+      (ap (λ (r : Answer). r .0) e, ap (λ (r : Answer). r .1) e, after-one a (subst (λ (r : Answer). Compiles text room v bytes c words x (r .0) (r .1)) (sym e) d))
