@@ -1,4 +1,6 @@
 -- The numbers of `Bits` have the bits that the predicates of `Sets` say: one law for each of the five. A union is `or`, `given` is `and`.
+--   has-or, has-half, has-pow, has-zero, has-given: the bits of a union, of a half, of a power of 2, of 0, of what is given or not
+--   null-is, first-is, last-is, follow-is, holders-is: what each number decides
 use mathlib.Core.Path.{_≡_, refl, sym, ap, _∙_}
 use mathlib.Core.Bool.{Bool, true, false, _&&_, _||_}
 use mathlib.Core.Logic.{_⊎_, inl, inr}

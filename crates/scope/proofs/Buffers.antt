@@ -1,4 +1,6 @@
 -- What the records on buffers determine: two lists that one record allows are equal, element by element.
+--   written-one, written-none, tail-one: of one buffer
+--   cleared-one, untouched-one: of the scratch
 use Prim.Native.Nat.{ℕ, _<_, _≤_}
 use mathlib.Core.Path.{_≡_, sym, _∙_}
 use mathlib.Core.Logic.{_⊎_, inl, inr}

@@ -1,5 +1,8 @@
 -- Comparing is determined. Rounds: the least of a kind is one. The string: were two different, the one that is smaller where they first differ would
 -- be a shortest separation that begins as the other, with a smaller byte.
+--   rounds-one, separation-one: rounds are one, and so is the string
+--   equal-separates: machines for the same strings have none
+--   determined: two results of one call are equal, with every byte of every buffer
 use Prim.Native.Nat.{ℕ, zero, suc, _<_, _≤_}
 use mathlib.Core.Path.{_≡_, refl, sym, ap, _∙_}
 use mathlib.Core.Logic.{_⊎_, inl, inr}

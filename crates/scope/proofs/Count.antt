@@ -1,4 +1,5 @@
 -- More than n and at most n exclude each other, by the pigeonhole, where to be alike is an equivalence.
+--   over-within: the two exclude each other
 use Prim.Native.Nat.{ℕ, suc, _≤_, _<_}
 use mathlib.Core.Path.{_≡_}
 use native.Mathlib.Omega.{arith}

@@ -1,5 +1,7 @@
 -- The length of the packed form. Each field of n bits has n; the parts of a long enough room are whole.
-use Prim.Native.Nat.{ℕ, zero, suc, _+_, _*_, _/_, _≤_}
+--   bits-length, fields-length, part-length: of a field, of a list of fields, of a part of a room
+--   form-bits: of the form of a sound room, before filling
+use Prim.Native.Nat.{ℕ, zero, suc, _+_, _*_, _≤_}
 use mathlib.Core.Path.{_≡_, refl, ap}
 use mathlib.Core.List.{List, [], _∷_}
 use native.Mathlib.Nat.{mul-le-mul, mul-suc}
@@ -37,7 +39,3 @@ form-bits m s =
       part-length m cellsAt (statesOf m * classesOf m) (omega arith),
     )
     (omega arith)
-
--- `a*`, the odd-parity byte, `\0` and `\e`: 198, 208, 196, 197 bytes
-lengths : ((1553 + 2 + 7 * (2 * 2) + 7) / 8 ≡ 198) × ((1553 + 5 + 7 * (5 * 3) + 7) / 8 ≡ 208) × ((1553 + 1 + 7 * (1 * 1) + 7) / 8 ≡ 196) × ((1553 + 2 + 7 * (2 * 1) + 7) / 8 ≡ 197)
-lengths = (refl, refl, refl, refl)

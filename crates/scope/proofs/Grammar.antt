@@ -1,5 +1,7 @@
 -- The grammar moves on, stays inside the text, and an atom of one position is read in one way only. An atom's first byte decides its rule; a class goes
 -- on with `-` exactly after a low end, since a bare dash is no byte of a class.
+--   escape-on .. reads-on: each family moves on
+--   escape-one .. single-one: what begins at a place is read in one way
 use Prim.Native.Nat.{ℕ, _+_, _<_}
 use mathlib.Core.Path.{_≡_, refl, sym, ap, subst, _∙_}
 use mathlib.Core.Bool.{Bool, true, false, false≢true}

@@ -1,4 +1,5 @@
 -- The pigeonhole principle: where each number below n has a place below m, and no place has two numbers, n ≤ m.
+--   pigeon: the principle
 use mathlib.Core.Path.{_≡_, refl, sym, _∙_}
 use mathlib.Core.Logic.{_⊎_, inl, inr}
 use Prim.Native.Nat.{ℕ, zero, suc, _≤_, _<_}

@@ -1,4 +1,7 @@
 -- The place of SYNTAX. A prefix of a viable text is viable, so it is enough to look one byte further; and the place is one.
+--   viable-less, viable-take: a prefix of a viable text is viable
+--   syntax-at: SYNTAX, from the next prefix alone
+--   syntax-one, beyond-one: places are one
 use Prim.Native.Nat.{ℕ, zero, suc, _+_, _<_, _≤_}
 use mathlib.Core.Path.{_≡_, refl, sym, ap, _∙_}
 use mathlib.Core.List.{List, [], _∷_, _++_, append-assoc}

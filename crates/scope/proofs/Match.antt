@@ -1,4 +1,7 @@
 -- Matching is determined: a string that is accepted completes each of its prefixes, so an accepted string is never dead.
+--   accepted-alive: every prefix of an accepted string is completable
+--   dead-one: the place is one
+--   determined: two results of one call are equal
 use Prim.Native.Nat.{ℕ, zero, suc}
 use mathlib.Core.Path.{_≡_, refl}
 use mathlib.Core.List.{List, [], _∷_}

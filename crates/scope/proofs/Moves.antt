@@ -1,5 +1,8 @@
 -- What the numbers of `Reached` say: two bytes share a class exactly when every position holds both or neither, and the set after a byte has the positions
 -- that hold it and to which an edge leads from the set.
+--   same-bits: two numbers with the same bits are the same
+--   share-is: what `Share` says of positions
+--   has-and, joined-is, after-is, move-is: the bits of an intersection, of a union, of an edge, of the next set
 use mathlib.Core.Path.{_≡_, sym, ap, _∙_}
 use mathlib.Core.Bool.{true, _&&_, false≢true}
 use mathlib.Core.Logic.{_⊎_, inl, inr, _↔_}

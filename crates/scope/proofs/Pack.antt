@@ -1,4 +1,5 @@
 -- Packing is determined: the conditions exclude one another, and the form is a function of the room.
+--   determined: two results of one call are equal, with every byte of every buffer
 use Prim.Native.Nat.{ℕ}
 use mathlib.Core.Path.{_≡_, refl, sym, _∙_}
 use mathlib.Core.List.{List}

@@ -1,6 +1,7 @@
 -- A text has one tree. The grammar recurses on the left, so two readings that begin at one place are compared by what the longer has more: stars after a
 -- factor, factors after a branch, branches after an expression. The byte after the shorter one tells whether there is more, so two that end at the end of the
 -- text, or before one `)`, are the same.
+--   one-tree: a text has at most one tree
 use Prim.Native.Nat.{ℕ, _+_}
 use mathlib.Core.Path.{_≡_, refl, sym, ap, subst₂, _∙_}
 use mathlib.Core.Bool.{Bool, true, false, false≢true}

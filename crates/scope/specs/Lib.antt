@@ -1,26 +1,34 @@
+-- Document 01, rendered: one file a notion, in the order of the document.
+
+-- What is built; the numbers that bound the work
 pub mod Limits
 pub mod Bytes
-pub mod Re
-pub mod Sets
-pub mod Bits
+-- The pattern language, and what expressions mean
 pub mod Tree
 pub mod Grammar
-pub mod Judge
+pub mod Re
+-- Positions to machine
+pub mod Sets
+pub mod Bits
 pub mod Machine
 pub mod Count
 pub mod Reached
 pub mod Room
 pub mod Canonical
-pub mod Rounds
-pub mod Separate
-pub mod Form
-pub mod Buffers
+-- Answers, in order of judgement
 pub mod Answers
+pub mod Judge
+pub mod Buffers
 pub mod Compile
 pub mod Minimise
 pub mod Match
+pub mod Separate
+pub mod Rounds
 pub mod Compare
+-- The packed form
+pub mod Form
 pub mod Pack
 pub mod Unpack
+-- The program's lines, and the sample patterns
 pub mod Lines
 pub mod Samples
