@@ -1,4 +1,8 @@
 -- The form of a room, field by field: a bit sequence is laid out for a room, and either determines the other.
+--   cellsBit, endBit: where the cells begin, and where the form ends, in bits
+--   Laid b m: the bits b are the fields of the room m; Framed m: what is not in the fields is as in a sound room
+--   form-laid: the bits of a form are laid out so
+--   laid-one, bits-one, one-form: the bits have one room, the room one sequence of bits, and a form one room
 use Prim.Native.Nat.{ℕ, zero, suc, _+_, _-_, _*_, _/_, _%_, _^_, _≤_, _<_}
 use mathlib.Core.Path.{_≡_, refl, sym, ap, _∙_}
 use mathlib.Core.Logic.{_⊎_, inl, inr}
