@@ -10,11 +10,11 @@ use mathlib.Core.List.{List, [], _∷_}
 use native.Mathlib.Omega.{arith}
 use lib.ListN.{length}
 use Rattle.scope.specs.Answers.{ROOM, LONG, SYNTAX, RANGE, DEPTH, POSITIONS, CLASSES, STATES, DONE}
-use Rattle.scope.specs.Limits.{patternLimit, nestLimit, positionLimit, byteValues, classLimit, stateLimit}
+use Rattle.scope.specs.Limits.{patternLimit, nestLimit, positionLimit, classLimit, stateLimit}
 use Rattle.scope.specs.Re.{Re, Words}
 use Rattle.scope.specs.Tree.{Tree, expr, falling, opened, places}
 use Rattle.scope.specs.Judge.{Pattern, SyntaxAt, Beyond, RangeAt, Ordered, DepthAt, Shallow, PositionAt}
-use Rattle.scope.specs.Reached.{Share, ReachedSet, ManyClasses, FewClasses, ManySets, FewSets}
+use Rattle.scope.specs.Reached.{Share, ManyClasses, FewClasses, ManySets, FewSets}
 use Rattle.scope.specs.Machine.{Machine, Equal, Recognises}
 use Rattle.scope.specs.Room.{machine}
 use Rattle.scope.specs.Compile.{CompileLent, Fits, Sized, CompileRefused, Compiles, no-room, too-long, no-syntax, falls, too-deep, too-many, many-classes, many-sets, compiled}
@@ -28,11 +28,11 @@ use Rattle.scope.proofs.Determined.{Judged, Single, judged-one}
 
 -- over 64 pattern classes and at most 64 exclude each other
 pub classes-apart : (e : Re) → ManyClasses e → FewClasses e → ⊥
-classes-apart e = over-within (λ (b : ℕ). b < byteValues) (Share e) (λ x y p. sym p) (λ x y z p q. p ∙ q) classLimit
+classes-apart e = over-within _ (Share e) (λ x y p. sym p) (λ x y z p q. p ∙ q) classLimit
 
 -- over 128 reached sets and at most 128 exclude each other
 pub sets-apart : (e : Re) → ManySets e → FewSets e → ⊥
-sets-apart e = over-within (ReachedSet e) (λ (s t : ℕ). s ≡ t) (λ x y p. sym p) (λ x y z p q. p ∙ q) stateLimit
+sets-apart e = over-within _ (λ (s t : ℕ). s ≡ t) (λ x y p. sym p) (λ x y z p q. p ∙ q) stateLimit
 
 -- two machines for one language accept the same strings
 pub one-language : (M N : Machine) (L : List ℕ → Type 0) → Recognises M L → Recognises N L → Equal M N

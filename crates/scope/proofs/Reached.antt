@@ -5,6 +5,7 @@
 --   share-move: bytes of one pattern class lead to the same set
 --   reached-start, reached-next: the reached sets are a complete machine
 --   Covers, covers-recognises: a machine that covers the sets recognises the words
+--   sets-fit: a machine of reached sets has no more states than sets are reached
 --   words-bytes: where positions hold only bytes, words are strings of bytes
 use mathlib.Core.Path.{_≡_, refl, sym, ap, _∙_}
 use mathlib.Core.Bool.{true, not, false≢true}
@@ -15,14 +16,15 @@ use native.Mathlib.Nat.{div-one}
 use native.Mathlib.Omega.{arith}
 use lib.Dec.{eqb, eqb·suc-zero}
 use lib.Bits.{bitAnd}
-use Rattle.scope.specs.Limits.{byteValues}
+use Rattle.scope.specs.Limits.{byteValues, stateLimit}
 use Rattle.scope.specs.Bytes.{Bytes}
 use Rattle.scope.specs.Re.{Re, size, Words}
 use Rattle.scope.specs.Sets.{Null, Last, At, Final, Path, end, to}
 use Rattle.scope.specs.Bits.{has, final, move, accepting}
 use Rattle.scope.specs.Machine.{Machine, walk, run, Recognises, Closed}
-use Rattle.scope.specs.Reached.{Share, ReachedSet}
-use Rattle.scope.proofs.Tests.{Tests, never, always, or, and, amounts, itself, equals}
+use Rattle.scope.specs.Reached.{Share, ReachedSet, FewSets}
+use Rattle.scope.proofs.Tests.{split, Tests, never, always, or, and, amounts, itself, equals}
+use Rattle.scope.proofs.Count.{over-within}
 use Rattle.scope.proofs.Run.{walk-append, bytes-append}
 use Rattle.scope.proofs.Bits.{null-is, last-is, has-or, has-given, has-pow, has-zero, has-half, digit}
 use Rattle.scope.proofs.Moves.{has-and, move-is}
@@ -126,6 +128,15 @@ covers-recognises e M set m c w g = rw (same w 0 (m .some) g, c .start) (sets-ex
     same : (w : List ℕ) (q : ℕ) → q < M .states → Bytes w → M .accepts (run M q w) ≡ accepting e (walk (move e) (set q) w)
     same [] q h g = c .marks q h
     same (b ∷ w) q h g = same w (M .next q b) (m .inside q b h (g .0)) (g .1) ∙ ap (λ (s : ℕ). accepting e (walk (move e) s w)) (c .moves q b h (g .0))
+
+-- a machine of reached sets, a state for each, has at most 128 states where at most 128 sets are reached
+pub sets-fit : (e : Re) (M : Machine) (set : ℕ → ℕ) → FewSets e → ((q : ℕ) → q < M .states → ReachedSet e (set q))
+    → ((p q : ℕ) → p < q → q < M .states → set p ≡ set q → ⊥) → M .states ≤ stateLimit
+sets-fit e M set f r d = elim (split stateLimit (M .states)) [
+  | inl h ↦ absurd (over-within _ (λ (s t : ℕ). s ≡ t) (λ x y p. sym p) (λ x y z p q. p ∙ q) stateLimit
+      (record { thing = set; have = λ i k. r i (omega arith); differ = λ i j k l. d i j k (omega arith) }) f)
+  | inr h ↦ h
+]
 
 -- where positions hold only bytes, words are strings of bytes
 pub words-bytes : (e : Re) (w : List ℕ) → ((p b : ℕ) → At e 0 p b → b < byteValues) → Words e w → Bytes w
