@@ -1,0 +1,60 @@
+-- The last state says it: its mark, else its live mark; where that is 0, the place is looked for.
+use native.Mathlib.Omega.{arith}
+use borrow.Author.Needs.{needs}
+use Rattle.scope.specs.Match.{accepted, dead, unfinished}
+use Rattle.matching.proofs.Laws.{accepting, not-accepting, alive}
+use Rattle.matching.proofs.match_sound.Statement.{statement}
+use Rattle.matching.proofs.match_sound.Tie as tie
+
+last-state-requires : tie.Need-last-state-requires
+last-state-requires c κs = search needs
+
+add-if1 : tie.Need-add-if1
+add-if1 c = search needs
+
+shared-slice-read-if1 : tie.Need-shared-slice-read-if1
+shared-slice-read-if1 c = search needs
+
+returns : tie.Need-returns
+returns c =
+    let s = c .before .before .before .before .before in
+    accepted (s .pre) (accepting (s .args .room .now) (s .args .text .now) (c .before .before .last-state .ensures .0) (c .if1 .taken))
+
+live-requires : tie.Need-live-requires
+live-requires c κs = search needs
+
+array-read-if2 : tie.Need-array-read-if2
+array-read-if2 c = search needs
+
+returns-2 : tie.Need-returns-2
+returns-2 c =
+    let t = c .before .before .before .before .before in
+    let s = t .before .before in
+    let q = c .before .before .before .before .last-state in
+    let live = c .before .live .ensures .marks .live (q .result) (c .if2 .taken) in
+    unfinished (s .pre)
+    (alive _ (s .args .text .now) (λ i. omega (arith, t .shared-slice-known2 .given i)) (rw (q .ensures .0) at live))
+    (not-accepting (s .args .room .now) (s .args .text .now) (q .ensures .0) (c .before .before .if1 .left))
+
+first-dead-requires : tie.Need-first-dead-requires
+first-dead-requires c κs =
+    let q = c .before .before .before .before .before in
+    let live = c .before .before .live .ensures in
+    (q .before .before .before .pre, (live, λ l. c .before .if2 .left (live .all _ (q .last-state .ensures .1) (rw (q .last-state .ensures .0) l))))
+
+returns-3 : tie.Need-returns-3
+returns-3 c = dead (c .before .before .before .before .before .before .before .before .before .pre) (c .first-dead .ensures)
+
+pub match-sound-spec : {M : Type 1} → statement M
+match-sound-spec =
+    tie.close
+    (tie.spec
+    last-state-requires
+    add-if1
+    shared-slice-read-if1
+    returns
+    live-requires
+    array-read-if2
+    returns-2
+    first-dead-requires
+    returns-3)

@@ -1,0 +1,69 @@
+// Matching a text against a machine room: one plain pass over the text, and a second, to the place where it died, only if it is dead.
+use scope::Machine;
+use scope::Matched;
+ghost use mathlib.Core.Path.{_≡_};
+ghost use Prim.Native.Nat.{_<_};
+ghost use Rattle.scope.specs.Answers.{matchedNumber, matchedPlace};
+ghost use Rattle.scope.specs.Machine.{run};
+ghost use Rattle.scope.specs.Match.{DeadAt, Matches};
+ghost use Rattle.scope.specs.Room.{statesOf, machine, Sound};
+ghost use Rattle.room.specs.Live.{Live, LiveMarks};
+
+// Judges the room, and answers how the text stands: accepted, dead from a place on, or unfinished.
+pub fn match_text(room: &[u8], text: &[u8]) -> Matched
+    ensures { λ r. ⌜ Matches (now (room .entry)) (now (text .entry)) (matchedNumber r) (matchedPlace r) ⌝ }
+{
+    if room.len() < Machine::ROOM {
+        return Matched::Room;
+    }
+    if !room::is_sound(room) {
+        return Matched::Form;
+    }
+    match_sound(room, text)
+}
+
+// The same of a sound room.
+fn match_sound(room: &[u8], text: &[u8]) -> Matched
+    requires { ⌜ Sound (now room) ⌝ }
+    ensures { λ r. ⌜ Matches (now (room .entry)) (now (text .entry)) (matchedNumber r) (matchedPlace r) ⌝ }
+{
+    let q = last_state(room, text);
+    if room[Machine::MARKS_AT + q] == 1 {
+        return Matched::Accepted;
+    }
+    let live = room::live(room);
+    if live[q] == 1 {
+        return Matched::Unfinished;
+    }
+    Matched::Dead(first_dead(room, text, &live))
+}
+
+// The state to which the text leads.
+fn last_state(room: &[u8], text: &[u8]) -> usize
+    requires { ⌜ Sound (now room) ⌝ }
+    ensures { λ r. ⌜ (r ≡ run (machine (now (room .entry))) 0 (now (text .entry))) × (r < statesOf (now (room .entry))) ⌝ }
+{
+    let mut q: usize = 0;
+    let mut i: usize = 0;
+    while i < text.len() {
+        q = room::step(room, q, text[i]);
+        i += 1;
+    }
+    q
+}
+
+// The length of the shortest prefix that leads to a dead state, where the text does.
+fn first_dead(room: &[u8], text: &[u8], live: &[u8; Machine::STATES]) -> usize
+    requires { ⌜ Sound (now room) ⌝ }
+    requires { ⌜ LiveMarks (now room) (now live) ⌝ }
+    requires { ⌜ (Live (machine (now room)) (run (machine (now room)) 0 (now text)) → ⊥) ⌝ }
+    ensures { λ r. ⌜ DeadAt (machine (now (room .entry))) (now (text .entry)) r ⌝ }
+{
+    let mut q: usize = 0;
+    let mut place: usize = 0;
+    while live[q] == 1 {
+        q = room::step(room, q, text[place]);
+        place += 1;
+    }
+    place
+}

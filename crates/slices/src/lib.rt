@@ -1,0 +1,83 @@
+// What every layer needs of a lent buffer: fill, copy, compare, the greatest byte; each with a contract that says every element.
+ghost use Prim.Native.Nat.{_≤_};
+ghost use lib.ListN.{length, getD};
+ghost use Rattle.scope.specs.Buffers.{Written, Scratch, Cleared};
+ghost use Rattle.slices.specs.Parts.{Decides, Stored, Alike, Greatest};
+
+// Stores v from `from` up to `to`.
+pub fn fill(m: &mut [u8], from: usize, to: usize, v: u8)
+    requires { ⌜ (from ≤ to) × (to ≤ length (now m)) ⌝ }
+    ensures { λ _. ⌜ Stored (now (m .entry)) (now (m .exit)) from to (λ i. v) ⌝ }
+{
+    let mut i = from;
+    while i < to {
+        m[i] = v;
+        i += 1;
+    }
+}
+
+// The same of words.
+pub fn fill_words(m: &mut [u64], from: usize, to: usize, v: u64)
+    requires { ⌜ (from ≤ to) × (to ≤ length (now m)) ⌝ }
+    ensures { λ _. ⌜ Stored (now (m .entry)) (now (m .exit)) from to (λ i. v) ⌝ }
+{
+    let mut i = from;
+    while i < to {
+        m[i] = v;
+        i += 1;
+    }
+}
+
+// Copies the first n bytes.
+pub fn copy(from: &[u8], to: &mut [u8], n: usize)
+    requires { ⌜ (n ≤ length (now from)) × (n ≤ length (now to)) ⌝ }
+    ensures { λ _. ⌜ Written n (λ i. getD (now (from .entry)) i 0) (now (to .entry)) (now (to .exit)) ⌝ }
+{
+    let mut i: usize = 0;
+    while i < n {
+        to[i] = from[i];
+        i += 1;
+    }
+}
+
+// Whether the first n bytes are the same.
+pub fn same(a: &[u8], b: &[u8], n: usize) -> bool
+    requires { ⌜ (n ≤ length (now a)) × (n ≤ length (now b)) ⌝ }
+    ensures { λ r. ⌜ Decides r (Alike (now (a .entry)) (now (b .entry)) n) ⌝ }
+{
+    let mut alike = true;
+    let mut i: usize = 0;
+    while i < n {
+        if a[i] != b[i] {
+            alike = false;
+        }
+        i += 1;
+    }
+    alike
+}
+
+// The greatest byte from `from` up to `to`, 0 if there is none.
+pub fn greatest(m: &[u8], from: usize, to: usize) -> u8
+    requires { ⌜ to ≤ length (now m) ⌝ }
+    ensures { λ r. ⌜ Greatest (now (m .entry)) from to r ⌝ }
+{
+    let mut top: u8 = 0;
+    let mut i = from;
+    while i < to {
+        let x = m[i];
+        if x > top {
+            top = x;
+        }
+        i += 1;
+    }
+    top
+}
+
+// Makes the named scratch zero.
+pub fn clear(bytes: &mut [u8], words: &mut [u64])
+    requires { ⌜ Scratch (now bytes) (now words) ⌝ }
+    ensures { λ _. ⌜ Cleared (now (bytes .entry)) (now (bytes .exit)) (now (words .entry)) (now (words .exit)) ⌝ }
+{
+    fill(bytes, 0, scope::Machine::SCRATCH_BYTES, 0);
+    fill_words(words, 0, scope::Machine::SCRATCH_WORDS, 0);
+}
