@@ -17,7 +17,8 @@ use Rattle.scope.specs.Judge.{Pattern, SyntaxAt, Beyond, RangeAt, Ordere
 use Rattle.scope.specs.Reached.{Share, ManyClasses, FewClasses, ManySets, FewSets}
 use Rattle.scope.specs.Machine.{Machine, Equal, Recognises}
 use Rattle.scope.specs.Room.{machine}
-use Rattle.scope.specs.Compile.{CompileLent, Fits, Sized, CompileRefused, Compiles, no-room, too-long, no-syntax, falls, too-deep, too-many, many-classes, many-sets, compiled}
+use Rattle.scope.specs.Buffers.{Lent}
+use Rattle.scope.specs.Compile.{Fits, Sized, CompileRefused, Compiles, no-room, too-long, no-syntax, falls, too-deep, too-many, many-classes, many-sets, compiled}
 use Rattle.scope.proofs.Tests.{same-test}
 use Rattle.scope.proofs.Buffers.{cleared-one, untouched-one, tail-one}
 use Rattle.scope.proofs.Count.{over-within}
@@ -74,7 +75,7 @@ module _ (text room bytes words : List ℕ) where
   from2 = (λ r. (r ≡ (LONG, 0)) × (patternLimit < length text)) ∷ from3
 
   abbrev judgements : List (Answer → Type 0)
-  judgements = (λ r. (r ≡ (ROOM, 0)) × (CompileLent room bytes words → ⊥)) ∷ from2
+  judgements = (λ r. (r ≡ (ROOM, 0)) × (Lent room bytes words → ⊥)) ∷ from2
 
   -- ---- each has one answer
 
@@ -99,7 +100,7 @@ module _ (text room bytes words : List ℕ) where
   past-place l n C t p h x (i, u, e, q, b) = let k : length (l u) ≤ n = subst (λ (v : Tree). length (l v) ≤ n) (one-tree text t u p q) h in omega (arith, b .more)
 
   module _ {r : Answer} where
-    past1 : CompileLent room bytes words → Judged from2 r → Judged judgements r
+    past1 : Lent room bytes words → Judged from2 r → Judged judgements r
     past1 l j = inr (λ x p. p .1 l, j)
 
     past2 : Fits text room bytes words → Judged from3 r → Judged judgements r

@@ -12,9 +12,9 @@ use lib.Seq.{length-take-le, getD-take, ext-getD}
 use Rattle.scope.specs.Answers.{DONE}
 use Rattle.scope.specs.Canonical.{Canonical}
 use Rattle.scope.specs.Form.{formLength, formByte, FormOf}
-use Rattle.scope.specs.Buffers.{Written}
-use Rattle.scope.specs.Pack.{PackLent, Packs, no-output, packed}
-use Rattle.scope.specs.Unpack.{UnpackLent, Unpacks, no-room, no-form, unpacked}
+use Rattle.scope.specs.Buffers.{Written, Lent}
+use Rattle.scope.specs.Pack.{Packs, no-output, packed}
+use Rattle.scope.specs.Unpack.{Unpacks, no-room, no-form, unpacked}
 use Rattle.scope.proofs.Buffers.{cleared-one, untouched-one, tail-one}
 use Rattle.scope.proofs.Room.{SameBytes}
 use Rattle.scope.proofs.Laid.{one-form}
@@ -56,13 +56,13 @@ unpacked-form (unpacked l n f k t) = (n, f)
 -- ---- there and back
 
 module _ {m f : List ℕ} (c : Canonical m) (a : FormOf m f) where
-  unpack-form : {room room′ bytes bytes′ words words′ : List ℕ} {i : ℕ} → UnpackLent room bytes words → Unpacks f room room′ bytes bytes′ words words′ i
+  unpack-form : {room room′ bytes bytes′ words words′ : List ℕ} {i : ℕ} → Lent room bytes words → Unpacks f room room′ bytes bytes′ words words′ i
       → (i ≡ DONE) × SameBytes m room′
   unpack-form lent (no-room h k t) = absurd (h lent)
   unpack-form lent (no-form l g k t) = absurd (g m c a)
   unpack-form {room′ = room′} lent (unpacked l n g k t) = (refl, one-form m room′ f (c .sound) (n .sound) a g)
 
-  pack-form : {out out′ bytes bytes′ words words′ : List ℕ} {i n : ℕ} → PackLent m bytes words → length f ≤ length out → Packs m out out′ bytes bytes′ words words′ i n
+  pack-form : {out out′ bytes bytes′ words words′ : List ℕ} {i n : ℕ} → Lent m bytes words → length f ≤ length out → Packs m out out′ bytes bytes′ words words′ i n
       → (i ≡ DONE) × (n ≡ length f) × (take n out′ ≡ f)
   pack-form lent h (Packs.no-room g k t) = absurd (g lent)
   pack-form lent h (Packs.no-form l g k t) = absurd (g c)
@@ -70,11 +70,11 @@ module _ {m f : List ℕ} (c : Canonical m) (a : FormOf m f) where
   pack-form {out} {out′} {n = n} lent h (packed l g e o k t) = (refl, e ∙ sym (a .size), form-one m (take n out′) f (written-form m out out′ n e o k) a)
 
 -- unpacking the n bytes that packing wrote is Done, and gives the room again
-pub unpack-pack : {room out out′ a a′ d d′ other other′ bytes bytes′ words words′ : List ℕ} {n i : ℕ} → Packs room out out′ a a′ d d′ DONE n → UnpackLent other bytes words
+pub unpack-pack : {room out out′ a a′ d d′ other other′ bytes bytes′ words words′ : List ℕ} {n i : ℕ} → Packs room out out′ a a′ d d′ DONE n → Lent other bytes words
     → Unpacks (take n out′) other other′ bytes bytes′ words words′ i → (i ≡ DONE) × SameBytes room other′
 unpack-pack p lent u = let (c, a) = packed-form p in unpack-form c a lent u
 
 -- packing what was unpacked into an output that is long enough is Done, and gives the form again: unpacking takes nothing that packing wouldn't write
-pub pack-unpack : {form room room′ a a′ d d′ out out′ bytes bytes′ words words′ : List ℕ} {i n : ℕ} → Unpacks form room room′ a a′ d d′ DONE → PackLent room′ bytes words
+pub pack-unpack : {form room room′ a a′ d d′ out out′ bytes bytes′ words words′ : List ℕ} {i n : ℕ} → Unpacks form room room′ a a′ d d′ DONE → Lent room′ bytes words
     → length form ≤ length out → Packs room′ out out′ bytes bytes′ words words′ i n → (i ≡ DONE) × (n ≡ length form) × (take n out′ ≡ form)
 pack-unpack u lent h p = let (c, a) = unpacked-form u in pack-form c a lent h p

@@ -3,6 +3,7 @@
 --   stored-none, stored-more, stored-written: nothing stored; one element more; stored from the start on, as scope says it
 --   alike-more, alike-not: the comparison so far, with one element more that is the same, or not
 --   most-new, most-old: a bound of the elements so far, with one element more that is above it, or not
+--   cleared-after, all-kept: the scratch in the end, whatever was written before; what is not touched
 use Prim.Native.Nat.{ℕ, _+_, _≤_, _<_}
 use mathlib.Core.Path.{_≡_, refl, _∙_}
 use mathlib.Core.Bool.{Bool, true, false, false≢true, true≢false}
@@ -12,7 +13,8 @@ use native.Mathlib.Omega.{arith}
 use borrow.Author.Count.{below-more}
 use lib.ListN.{length, getD, set, length-set}
 use lib.Seq.{getD-set-same, getD-set-other}
-use Rattle.scope.specs.Buffers.{Written}
+use Rattle.scope.specs.Limits.{scratchBytes, scratchWords}
+use Rattle.scope.specs.Buffers.{Written, TailKept, Cleared}
 use Rattle.slices.specs.Parts.{Decides, Stored, Alike, AtMost}
 
 -- a test that came out true
@@ -70,3 +72,15 @@ most-new m from i r h f = below-more (λ (j : ℕ). from ≤ j → getD m j 0 �
 -- one element more that is not
 pub most-old : (m : List ℕ) (from i r : ℕ) → getD m i 0 ≤ r → AtMost m from i r → AtMost m from (i + 1) r
 most-old m from i r h f = below-more (λ (j : ℕ). from ≤ j → getD m j 0 ≤ r) i f (λ o. h)
+
+-- the scratch is zero in the end, whatever was written into the named part of it before
+pub cleared-after : {n k : ℕ} {bytes b bytes′ words w words′ : List ℕ} → n ≤ scratchBytes → k ≤ scratchWords → TailKept n bytes b → TailKept k words w
+    → Cleared b bytes′ w words′ → Cleared bytes bytes′ words words′
+cleared-after h k s t c = record { bytes-zero = over h s (c .bytes-zero); words-zero = over k t (c .words-zero) }
+  where
+    over : {n m : ℕ} {f : ℕ → ℕ} {x y z : List ℕ} → n ≤ m → TailKept n x y → Written m f y z → Written m f x z
+    over h s w = record { size = w .size ∙ s .size; inside = w .inside; outside = λ i k. w .outside i k ∙ s .outside i (omega arith) }
+
+-- what is not touched is kept
+pub all-kept : (m : List ℕ) (n : ℕ) → TailKept n m m
+all-kept m n = record { size = refl; outside = λ i h. refl }

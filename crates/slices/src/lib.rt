@@ -1,7 +1,7 @@
 // What every layer needs of a lent buffer: fill, copy, compare, the greatest byte; each with a contract that says every element.
 ghost use Prim.Native.Nat.{_≤_};
 ghost use lib.ListN.{length, getD};
-ghost use Rattle.scope.specs.Buffers.{Written, Scratch, Cleared};
+ghost use Rattle.scope.specs.Buffers.{Written, Scratch, Lent, Cleared};
 ghost use Rattle.slices.specs.Parts.{Decides, Stored, Alike, Greatest};
 
 // Stores v from `from` up to `to`.
@@ -71,6 +71,29 @@ pub fn greatest(m: &[u8], from: usize, to: usize) -> u8
         i += 1;
     }
     top
+}
+
+// Whether the scratch is long enough.
+pub fn is_scratch(bytes: &[u8], words: &[u64]) -> bool
+    ensures { λ r. ⌜ Decides r (Scratch (now (bytes .entry)) (now (words .entry))) ⌝ }
+{
+    if bytes.len() < scope::Machine::SCRATCH_BYTES {
+        return false;
+    }
+    if words.len() < scope::Machine::SCRATCH_WORDS {
+        return false;
+    }
+    true
+}
+
+// Whether a machine room and the scratch are long enough.
+pub fn is_lent(room: &[u8], bytes: &[u8], words: &[u64]) -> bool
+    ensures { λ r. ⌜ Decides r (Lent (now (room .entry)) (now (bytes .entry)) (now (words .entry))) ⌝ }
+{
+    if room.len() < scope::Machine::ROOM {
+        return false;
+    }
+    is_scratch(bytes, words)
 }
 
 // Makes the named scratch zero.

@@ -1,0 +1,53 @@
+-- Part after part, each from the bit where the one before it ended.
+use borrow.Author.Needs.{needs}
+use Rattle.fields.proofs.Parts.{classes-due, marks-due, cells-due, fields-out}
+use Rattle.fields.proofs.packing.put_all.Statement.{statement}
+use Rattle.fields.proofs.packing.put_all.Tie as tie
+
+classes-requires : tie.Need-put-part-requires
+classes-requires c κs =
+    let head = c .before .before .before in
+    let start = head .before .before .before .before .before .before .before in
+    classes-due (start .pre) (head .put-head .ensures)
+
+marks-requires : tie.Need-put-part-requires-2
+marks-requires c κs =
+    let classes = c .before .before .before in
+    let head = classes .before .before .before .before in
+    let start = head .before .before .before .before .before .before .before in
+    marks-due (start .pre) (head .put-head .ensures) (classes .put-part .ensures)
+
+cells-requires : tie.Need-put-part-requires-3
+cells-requires c κs =
+    let marks = c .before .before .before in
+    let classes = marks .before .before .before .before in
+    let head = classes .before .before .before .before in
+    let used = head .before .before .used-cells in
+    let start = head .before .before .before .before .before .before .before in
+    cells-due (start .pre) (head .put-head .ensures) (classes .put-part .ensures) (marks .put-part2 .ensures) (used .ensures .0)
+
+returns : tie.Need-returns
+returns c =
+    let cells = c .before .before in
+    let marks = cells .before .before .before .before in
+    let classes = marks .before .before .before .before in
+    let head = classes .before .before .before .before in
+    let used = head .before .before .used-cells in
+    let start = head .before .before .before .before .before .before .before in
+    fields-out (start .pre) (head .put-head .ensures) (classes .put-part .ensures) (marks .put-part2 .ensures) (used .ensures .0) (cells .put-part3 .ensures)
+
+pub put-all-spec : {M : Type 1} → statement M
+put-all-spec =
+    tie.close
+    (tie.spec
+    (λ c. search needs)
+    (λ c. search needs)
+    (λ c. search needs)
+    (λ c. search needs)
+    (λ c κs. search needs)
+    (λ c κs. search needs)
+    classes-requires
+    marks-requires
+    cells-requires
+    (λ c. search needs)
+    returns)

@@ -1,0 +1,9 @@
+-- The laws behind the refinement, each file after what it needs.
+pub mod Names
+pub mod Rooms
+pub mod ByKind
+pub mod Marks
+pub mod Passes
+pub mod Turns
+pub mod Climbing
+pub mod Refined

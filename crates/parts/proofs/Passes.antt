@@ -1,0 +1,242 @@
+-- One pass over the states: each is placed with the state that begins its new part. Those that begin new parts within one old part are linked, the
+-- last first, from the state that begins the old part. So a state has been compared with all that could agree with it when the links end.
+--   chain-low, last-more: a state of a chain is below the next to be placed; the last stays the last while none is added
+--   Tried R old h q p: of the chain only p, and what it leads to, is still to be compared with q
+--   tried-first, tried-more, tried-less: comparing along the chain
+--   place-old, place-head, place-found, place-none: the state itself, that which begins the old part, or one of the chain is the first that agrees
+--   Passed R old new₀ new link parent parent′ born born′ r opened q: the pass has come to the state q
+--   chain-kept, chain-opened: what that does to the links
+--   passed-none, passed-old, passed-joined, passed-opened: a state begins its old part still, joins a new part, or opens one
+use Prim.Native.Nat.{ℕ, _+_, _≤_, _<_}
+use mathlib.Core.Path.{_≡_, refl, sym, _∙_}
+use mathlib.Core.Bool.{Bool, true, false}
+use mathlib.Core.Logic.{inl, inr}
+use mathlib.Core.List.{List}
+use native.Mathlib.Omega.{arith}
+use native.Mathlib.Decide.{ℕ-discrete}
+use borrow.Author.Count.{below-more}
+use lib.Seq.{getD-set-same, getD-set-other}
+use lib.ListN.{length, getD, set, replicate, length-set}
+use Rattle.scope.proofs.Tests.{split}
+use Rattle.slices.specs.Parts.{Decides}
+use Rattle.parts.specs.Parts.{First, Renamed, Alike, Agree}
+use Rattle.parts.specs.Round.{Within, Last, Chain, Opens, Opened, Births}
+use Rattle.parts.proofs.Names.{zeros, is, isnt, first-own, renamed-none, renamed-more, agree-itself, agree-flip, agree-chain}
+
+-- a state of a chain, or 0 at its end, is below the next to be placed
+pub chain-low : (R : ℕ → ℕ → Type 0) (old : List ℕ) (h e l : ℕ) → h < e → (0 < l → Within R old h e l) → l < e
+chain-low R old h e l k w = elim (split 0 l) [ inl x ↦ w x .below | inr x ↦ omega arith ]
+
+-- and below all that come later
+wider : (R : ℕ → ℕ → Type 0) (old : List ℕ) (h e f l : ℕ) → e ≤ f → Within R old h e l → Within R old h f l
+wider R old h e f l k w = record { above = w .above; below = omega (arith, w .below); begins = w .begins; part = w .part }
+
+-- the last state of a chain stays the last while none is added
+last-more : (R : ℕ → ℕ → Type 0) (old : List ℕ) (h e l : ℕ) → Last R old h e l → (Within R old h (e + 1) e → ⊥) → Last R old h (e + 1) l
+last-more R old h e l d n = record {
+  is = λ k. wider R old h e (e + 1) l (omega arith) (d .is k);
+  none = λ p k w. elim (split p e) [
+    | inl x ↦ d .none p k (record { above = w .above; below = x; begins = w .begins; part = w .part })
+    | inr x ↦ (let z : p ≡ e = omega (arith, w .below) in n (rw z at w))
+  ];
+}
+
+pub record Tried (R : ℕ → ℕ → Type 0) (old : List ℕ) (h q p : ℕ) : Type 0 where
+  pub is : 0 < p → Within R old h q p
+  pub none : (j : ℕ) → p < j → Within R old h q j → R j q → ⊥
+
+module _ (next : ℕ → ℕ → ℕ) (old : List ℕ) (q : ℕ) (f : First (Alike old) q (getD old q 0)) where
+  abbrev R : ℕ → ℕ → Type 0
+  R = Agree next old
+
+  abbrev h : ℕ
+  h = getD old q 0
+
+  found : (p : ℕ) → p ≤ q → First R p p → R p q → First R q p
+  found p l g e = record { low = l; like = e; least = λ j k a. g .least j k (agree-chain next old j q p a (agree-flip next old p q e)) }
+
+  -- a state that begins its old part begins a new one
+  pub place-old : q ≤ h → First R q q
+  place-old l = record { low = omega arith; like = agree-itself next old q; least = λ j k a. f .least j (omega arith) (a .here) }
+
+  -- the state that begins the old part agrees
+  pub place-head : R h q → First R q h
+  place-head e = found h (f .low) (record { low = omega arith; like = agree-itself next old h; least = λ j k a. f .least j k (a .here ∙ f .like) }) e
+
+  -- a state of the chain agrees
+  pub place-found : (p : ℕ) → Within R old h q p → R p q → First R q p
+  place-found p w e = found p (omega (arith, w .below)) (w .begins) e
+
+  module _ (link : List ℕ) (c : Chain R old link q) where
+    -- all of the chain is to be compared
+    pub tried-first : h < q → Tried R old h q (getD link h 0)
+    tried-first l = let d = c .top h l (f .like) in record { is = d .is; none = λ j k w a. d .none j k w }
+
+    before : (p : ℕ) → Within R old h q p → Last R old h p (getD link p 0)
+    before p w = rw (w .part) at (c .down p (w .below) (w .begins) (omega (arith, w .above, w .part)))
+
+    -- the next of the chain is below
+    pub tried-less : (p : ℕ) → Within R old h q p → getD link p 0 < p
+    tried-less p w = chain-low R old h p (getD link p 0) (w .above) (before p w .is)
+
+    -- one state of the chain does not agree
+    pub tried-more : (p : ℕ) → Tried R old h q p → 0 < p → (R p q → ⊥) → Tried R old h q (getD link p 0)
+    tried-more p t l n =
+        let w = t .is l in
+        let d = before p w in
+        record {
+          is = λ k. wider R old h p q (getD link p 0) (omega (arith, w .below)) (d .is k);
+          none = λ j k v a. elim (split j p) [
+            | inl x ↦ d .none j k (record { above = v .above; below = x; begins = v .begins; part = v .part })
+            | inr x ↦ elim (split p j) [
+              | inl y ↦ t .none j y v a
+              | inr y ↦ (let z : j ≡ p = omega arith in n (rw z at a))
+            ]
+          ];
+        }
+
+    -- none does: q is the first
+    pub place-none : (p : ℕ) → Tried R old h q p → p ≤ 0 → (R h q → ⊥) → First R q q
+    place-none p t z n = record { low = omega arith; like = agree-itself next old q; least = λ j l e. go j l e (c .begun j l) }
+      where
+        go : (j : ℕ) → j < q → R j q → (x : ℕ) × First R j x → ⊥
+        go j l e (x, g) =
+            let a : R x q = agree-chain next old x j q (g .like) e in
+            let own = first-own R (agree-itself next old) (agree-flip next old) (agree-chain next old) j x g in
+            elim (split h x) [
+              | inl k ↦ t .none x (omega arith) (record { above = k; below = omega (arith, g .low); begins = own; part = a .here }) a
+              | inr k ↦ elim (split x h) [
+                | inl m ↦ f .least x m (a .here)
+                | inr m ↦ (let y : x ≡ h = omega arith in n (rw y at a))
+              ]
+            ]
+
+pub record Passed (R : ℕ → ℕ → Type 0) (old new₀ new link parent parent′ born born′ : List ℕ) (r : ℕ) (opened : Bool) (q : ℕ) : Type 0 where
+  pub named : Renamed R new₀ new q
+  pub chain : Chain R old link q
+  pub zero : (x : ℕ) → q ≤ x → getD link x 0 ≡ 0
+  pub births : Births old new parent parent′ born born′ r q
+  pub some : Decides opened (Opened old new q)
+  pub link-long : length link ≡ 256
+
+pub passed-none : (R : ℕ → ℕ → Type 0) (old new parent born : List ℕ) (r : ℕ) → Passed R old new new (replicate 256 0) parent parent born born r false 0
+passed-none R old new parent born r = record {
+  named = renamed-none R new;
+  chain = record { top = λ h l. absurd (omega arith); down = λ p l. absurd (omega arith); begun = λ p l. absurd (omega arith) };
+  zero = λ x l. zeros 256 x;
+  births = record { made = λ x l. absurd (omega arith); kept = λ x n. (refl, refl); parent-long = refl; born-long = refl };
+  some = isnt (λ o. omega (arith, o .is-state));
+  link-long = refl;
+}
+
+module _ (R : ℕ → ℕ → Type 0) (old link : List ℕ) (q : ℕ) (c : Chain R old link q) where
+  -- a state that opens no part
+  chain-kept : (p : ℕ) → First R q p → getD link q 0 ≡ 0 → (First R q q → getD old q 0 < q → ⊥) → Chain R old link (q + 1)
+  chain-kept p f z n = record {
+    top = below-more (λ (h : ℕ). getD old h 0 ≡ h → Last R old h (q + 1) (getD link h 0)) q
+        (λ h l e. last-more R old h q (getD link h 0) (c .top h l e) (λ w. n (w .begins) (omega (arith, w .above, w .part))))
+        (λ e. record { is = λ l. absurd (omega arith); none = λ p l w. omega (arith, w .above, w .below) });
+    down = below-more (λ (p : ℕ). First R p p → getD old p 0 < p → Last R old (getD old p 0) p (getD link p 0)) q (c .down) (λ g l. absurd (n g l));
+    begun = below-more (λ (p : ℕ). (x : ℕ) × First R p x) q (c .begun) (p, f);
+  }
+
+  -- a state that opens one is the last of its chain
+  chain-opened : q < length link → First R q q → getD old q 0 < q → getD old (getD old q 0) 0 ≡ getD old q 0
+      → Chain R old (set (set link q (getD link (getD old q 0) 0)) (getD old q 0) q) (q + 1)
+  chain-opened long f l own =
+      let h = getD old q 0 in
+      let v = getD link h 0 in
+      let link′ = set (set link q v) h q in
+      let at : getD link′ h 0 ≡ q = getD-set-same (set link q v) h q 0 (omega (arith, length-set link q v)) in
+      let off : (x : ℕ) → (x ≡ h → ⊥) → (x ≡ q → ⊥) → getD link′ x 0 ≡ getD link x 0 =
+      λ x m n. getD-set-other (set link q v) h x q 0 m ∙ getD-set-other link q x v 0 n in
+      let here : getD link′ q 0 ≡ v = getD-set-other (set link q v) h q q 0 (λ e. omega arith) ∙ getD-set-same link q v 0 long in
+      record {
+        top = below-more (λ (x : ℕ). getD old x 0 ≡ x → Last R old x (q + 1) (getD link′ x 0)) q
+            (λ x k e. elim (ℕ-discrete x h) [
+              | yes y ↦ rw (y, at) (record { is = λ m. record { above = l; below = omega arith; begins = f; part = refl }; none = λ p m w. omega (arith, w .below) })
+              | no n ↦ rw (off x n (λ y. omega arith)) (last-more R old x q (getD link x 0) (c .top x k e) (λ w. n (sym (w .part))))
+            ])
+            (λ e. absurd (omega arith));
+        down = below-more (λ (p : ℕ). First R p p → getD old p 0 < p → Last R old (getD old p 0) p (getD link′ p 0)) q
+            (λ p k g m. rw (off p (λ y. omega (arith, rw y at m, own)) (λ y. omega arith)) (c .down p k g m))
+            (λ g m. rw here (c .top h l own));
+        begun = below-more (λ (p : ℕ). (x : ℕ) × First R p x) q (c .begun) (q, f);
+      }
+
+module _ (old new : List ℕ) (q p : ℕ) where
+  opens-set : (x : ℕ) → x < q → Opens old new x → Opens old (set new q p) x
+  opens-set x l o = record { begins = getD-set-other new q x p 0 (λ e. omega arith) ∙ o .begins; began = o .began }
+
+  opens-old : (x : ℕ) → x < q → Opens old (set new q p) x → Opens old new x
+  opens-old x l o = record { begins = sym (getD-set-other new q x p 0 (λ e. omega arith)) ∙ o .begins; began = o .began }
+
+  opened-set : Opened old new q → Opened old (set new q p) (q + 1)
+  opened-set o = record { state = o .state; is-state = omega (arith, o .is-state); opens = opens-set (o .state) (o .is-state) (o .opens) }
+
+module _ (R : ℕ → ℕ → Type 0) (old new₀ new link parent parent′ born born′ : List ℕ) (r : ℕ) (opened : Bool) (q : ℕ) (long : q < 256) (wide : length new₀ ≡ 256)
+    (d : Passed R old new₀ new link parent parent′ born born′ r opened q) where
+  -- a state that opens no part
+  passed-kept : (p : ℕ) → First R q p → (First R q q → getD old q 0 < q → ⊥) → getD old q 0 ≤ q → Passed R old new₀ (set new q p) link parent parent′ born born′ r opened (q + 1)
+  passed-kept p f n low =
+      let at : getD (set new q p) q 0 ≡ p = getD-set-same new q p 0 (omega (arith, d .named .long)) in
+      let shut : Opens old (set new q p) q → ⊥ =
+      λ o. (let e : p ≡ q = sym at ∙ o .begins in n (rw e at f) (omega (arith, o .began))) in
+      let b = d .births in
+      record {
+        named = renamed-more R new₀ new q p (omega arith) (d .named) f;
+        chain = chain-kept R old link q (d .chain) p f (d .zero q (omega arith)) n;
+        zero = λ x l. d .zero x (omega arith);
+        births = record {
+          made = below-more (λ (x : ℕ). Opens old (set new q p) x → (getD parent′ x 0 ≡ getD old x 0) × (getD born′ x 0 ≡ r)) q
+              (λ x l o. b .made x l (opens-old old new q p x l o)) (λ o. absurd (shut o));
+          kept = λ x m. b .kept x (λ l o. m (omega arith) (opens-set old new q p x l o));
+          parent-long = b .parent-long;
+          born-long = b .born-long;
+        };
+        some = record {
+          yes = λ e. opened-set old new q p (d .some .yes e);
+          no = λ e o. elim (split (o .state) q) [
+            | inl l ↦ d .some .no e (record { state = o .state; is-state = l; opens = opens-old old new q p (o .state) l (o .opens) })
+            | inr l ↦ (let z : o .state ≡ q = omega (arith, o .is-state) in shut (rw z at (o .opens)))
+          ];
+        };
+        link-long = d .link-long;
+      }
+
+  -- a state that begins its old part still
+  pub passed-old : First R q q → q ≤ getD old q 0 → getD old q 0 ≤ q → Passed R old new₀ (set new q q) link parent parent′ born born′ r opened (q + 1)
+  passed-old f l low = passed-kept q f (λ g k. omega arith) low
+
+  -- a state that joins a part
+  pub passed-joined : (p : ℕ) → First R q p → (p ≡ q → ⊥) → getD old q 0 ≤ q → Passed R old new₀ (set new q p) link parent parent′ born born′ r opened (q + 1)
+  passed-joined p f n low = passed-kept p f (λ g k. g .least p (omega (arith, f .low)) (f .like)) low
+
+  -- a state that opens one
+  pub passed-opened : First R q q → getD old q 0 < q → getD old (getD old q 0) 0 ≡ getD old q 0 → length parent ≡ 256 → length born ≡ 256
+      → Passed R old new₀ (set new q q) (set (set link q (getD link (getD old q 0) 0)) (getD old q 0) q) parent (set parent′ q (getD old q 0)) born (set born′ q r) r true (q + 1)
+  passed-opened f l own pl bl =
+      let h = getD old q 0 in
+      let v = getD link h 0 in
+      let b = d .births in
+      let opens : Opens old (set new q q) q = record { begins = getD-set-same new q q 0 (omega (arith, d .named .long)); began = λ e. omega arith } in
+      let offp : (x : ℕ) → (x ≡ q → ⊥) → getD (set parent′ q h) x 0 ≡ getD parent′ x 0 = λ x n. getD-set-other parent′ q x h 0 n in
+      let offb : (x : ℕ) → (x ≡ q → ⊥) → getD (set born′ q r) x 0 ≡ getD born′ x 0 = λ x n. getD-set-other born′ q x r 0 n in
+      record {
+        named = renamed-more R new₀ new q q (omega arith) (d .named) f;
+        chain = chain-opened R old link q (d .chain) (omega (arith, d .link-long)) f l own;
+        zero = λ x k. getD-set-other (set link q v) h x q 0 (λ e. omega arith) ∙ getD-set-other link q x v 0 (λ e. omega arith) ∙ d .zero x (omega arith);
+        births = record {
+          made = below-more (λ (x : ℕ). Opens old (set new q q) x → (getD (set parent′ q h) x 0 ≡ getD old x 0) × (getD (set born′ q r) x 0 ≡ r)) q
+              (λ x k o. let m = b .made x k (opens-old old new q q x k o) in (offp x (λ e. omega arith) ∙ m .0, offb x (λ e. omega arith) ∙ m .1))
+              (λ o. (getD-set-same parent′ q h 0 (omega (arith, b .parent-long)), getD-set-same born′ q r 0 (omega (arith, b .born-long))));
+          kept = λ x m.
+              let n : x ≡ q → ⊥ = λ e. m (omega arith) (rw e opens) in
+              let k = b .kept x (λ y o. m (omega arith) (opens-set old new q q x y o)) in
+              (offp x n ∙ k .0, offb x n ∙ k .1);
+          parent-long = length-set parent′ q h ∙ b .parent-long;
+          born-long = length-set born′ q r ∙ b .born-long;
+        };
+        some = is (record { state = q; is-state = omega arith; opens = opens });
+        link-long = length-set (set link q v) h q ∙ length-set link q v ∙ d .link-long;
+      }

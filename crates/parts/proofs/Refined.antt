@@ -1,0 +1,94 @@
+-- What the refinement says to those who use it. To compare, it is made of all states of two rooms: `side a b (s + t)` is `aside (machine a) (machine b)`, so that
+-- the laws on `Refined` speak of that machine. To minimise, it is made of the states of one room, which runs alone as it does beside another.
+--   refined-together: in the end two states are in one part exactly if they are together after the last round
+--   climbs, climbed-together: two states climb to one part exactly if they are together after that round
+--   both-rounds, both-few: two rooms: the number of rounds is that of both machines together, and at most s + t - 2
+--   left-parts: one room: its parts are the states that no string tells apart
+use Prim.Native.Nat.{ℕ, _+_, _≤_, _<_}
+use mathlib.Core.Path.{_≡_, refl, sym, _∙_}
+use mathlib.Core.Logic.{_↔_}
+use mathlib.Core.List.{List}
+use native.Mathlib.Omega.{arith}
+use lib.ListN.{getD}
+use Rattle.scope.specs.Machine.{Machine, Same}
+use Rattle.scope.specs.Room.{statesOf, machine, Sound}
+use Rattle.scope.specs.Rounds.{aside, Together, Rounds}
+use Rattle.scope.proofs.Rounds.{together-in, together-flip, together-chain, rests-same}
+use Rattle.scope.proofs.Run.{sound-closed}
+use Rattle.scope.proofs.Aside.{left-run, rounds-two}
+use Rattle.parts.specs.Side.{both, side}
+use Rattle.parts.specs.Parts.{Named, Alike}
+use Rattle.parts.specs.Refined.{Refined, PartsOf, Climbs, Climbed}
+use Rattle.parts.proofs.Names.{first-one, named-same, named-told, named-name, named-below}
+use Rattle.parts.proofs.Turns.{together-itself, part-same, part-told}
+
+module _ (M : Machine) (part parent born : List ℕ) (k : ℕ) (d : Refined M part parent born k) where
+  -- in the end two states are in one part exactly if they are together after the last round
+  pub refined-together : (p q : ℕ) → p < M .states → q < M .states → Alike part p q ↔ Together M k p q
+  refined-together p q hp hq = (part-same M k (M .states) part (d .named) p q hp hq, part-told M k (M .states) part (d .named) p q hp hq)
+
+  -- the arrays can be climbed to any round
+  pub climbs : (q r : ℕ) → M .states ≤ 256 → q < M .states → r ≤ k → Climbs part parent born q r
+  climbs q r f h l = record { machine = M; rounds = k; refined = d; few = f; is-state = h; past = l }
+
+  -- two states climb to one part exactly if they are together after that round
+  pub climbed-together : (p q r x y : ℕ) → p < M .states → q < M .states → r ≤ k → Climbed part parent born p r x → Climbed part parent born q r y
+      → (x ≡ y) ↔ Together M r p q
+  climbed-together p q r x y hp hq l c e =
+      let f = c M k d hp l in
+      let g = e M k d hq l in (
+        λ z. together-chain M r p x q (together-flip M r x p (f .like)) (rw z (g .like)),
+        λ t. first-one (Together M r) (together-itself M r) (together-flip M r) (together-chain M r) p q x y t f g,
+      )
+
+  refined-same : Named (λ p q. Same M p M q) part (M .states)
+  refined-same q h =
+      let f = d .named q h in
+      record {
+        low = f .low;
+        like = rests-same M (d .closed) k (getD part q 0) q (omega (arith, f .low)) h (d .last .rests) (f .like);
+        least = λ p l s. f .least p l (together-in M k p q (λ w g m. s w g));
+      }
+
+module _ (a b part parent born : List ℕ) (rounds : ℕ) (s : Sound a) (t : Sound b) where
+  -- two rooms: the number of rounds is that of both machines together
+  pub both-rounds : Refined (side a b (statesOf a + statesOf b)) part parent born rounds → Rounds (aside (machine a) (machine b)) rounds
+  both-rounds d = d .last
+
+  -- and at most s + t - 2
+  pub both-few : Refined (side a b (statesOf a + statesOf b)) part parent born rounds → rounds + 2 ≤ statesOf a + statesOf b
+  both-few d = rounds-two (machine a) (machine b) (sound-closed a s) (sound-closed b t) rounds (d .last)
+
+  -- one room: its parts are the states that no string tells apart
+  pub left-parts : Refined (side a b (statesOf a)) part parent born rounds → PartsOf (machine a) part
+  left-parts d = record {
+    low = λ q h. f q h .low;
+    inside = named-below R itself flip chain part (statesOf a) f;
+    name = named-name R itself flip chain part (statesOf a) f;
+    same = named-same R itself flip chain part (statesOf a) f;
+    told = named-told R itself flip chain part (statesOf a) f;
+  }
+    where
+      R : ℕ → ℕ → Type 0
+      R p q = Same (machine a) p (machine a) q
+
+      itself : (p : ℕ) → R p p
+      itself p w g = refl
+
+      flip : (p q : ℕ) → R p q → R q p
+      flip p q e w g = sym (e w g)
+
+      chain : (p q t : ℕ) → R p q → R q t → R p t
+      chain p q t e f w g = e w g ∙ f w g
+
+      alone : (q : ℕ) → q < statesOf a → Same (both a b) q (machine a) q
+      alone q h w g = left-run (machine a) (machine b) (sound-closed a s) (sound-closed b t) q w h g
+
+      f : Named R part (statesOf a)
+      f q h =
+          let e = refined-same (side a b (statesOf a)) part parent born rounds d q h in
+          record {
+            low = e .low;
+            like = λ w g. sym (alone (getD part q 0) (omega (arith, e .low)) w g) ∙ e .like w g ∙ alone q h w g;
+            least = λ p l z. e .least p l (λ w g. alone p (omega (arith, e .low)) w g ∙ z w g ∙ sym (alone q h w g));
+          }

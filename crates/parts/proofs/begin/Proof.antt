@@ -1,0 +1,64 @@
+-- The states below q are named by mark: other is the first whose mark is not that of the state 0, or 0.
+use mathlib.Core.Path.{_≡_, sym, _∙_}
+use mathlib.Core.Logic.{⊎-elim}
+use Prim.Native.Nat.{_≤_, _<_, _-_}
+use native.Mathlib.Omega.{arith}
+use borrow.Author.Needs.{needs}
+use Rattle.parts.proofs.Marks.{Begun, begun-none, begun-same, begun-first, begun-other, begun-all}
+use Rattle.parts.proofs.begin.Statement.{statement}
+use Rattle.parts.proofs.begin.Tie as tie
+
+abbrev Inv-loop : tie.InvT-loop
+Inv-loop a b n part₀ m other₀ q₀ part other q = (q ≤ n) × Begun a b part other q
+
+abbrev μ-loop : tie.MeasureT-loop
+μ-loop a b n part₀ m other₀ q₀ part other q = n - q
+
+mark-requires : tie.Need-mark-requires Inv-loop μ-loop
+mark-requires c κs = search needs
+
+loop-holds : tie.Need-loop-holds Inv-loop μ-loop
+loop-holds c = (search needs, begun-none _ _)
+
+mark-requires-2 : tie.Need-mark-requires-2 Inv-loop μ-loop
+mark-requires-2 c κs = search needs
+
+cast-part : tie.Need-cast-part Inv-loop μ-loop
+cast-part c = let d = c .before .before .before .before .before .before .before .before .before .pre in
+    let h : c .before .before .before .before .before .loop .q < 256 = omega (arith, c .before .before .before .before .loop-test .taken, d .few, d .left .few-states, d .right .few-states) in
+    ⊎-elim (λ w. omega (arith, w .1)) (λ w. omega (arith, w .1, c .before .before .before .before .before .loop .inv .1 .low)) (c .before .if2 .came)
+
+mul-part : tie.Need-mul-part Inv-loop μ-loop
+mul-part c = search needs
+
+array-write-part : tie.Need-array-write-part Inv-loop μ-loop
+array-write-part c = search needs
+
+add-q : tie.Need-add-q Inv-loop μ-loop
+add-q c = search needs
+
+loop-less : tie.Need-loop-less Inv-loop μ-loop
+loop-less c = search needs
+
+loop-again : tie.Need-loop-again Inv-loop μ-loop
+loop-again c = let d = c .before .before .before .before .before .before .before .pre in
+    let l = c .before .before .before .loop in
+    let m = c .before .before .before .before .mark .ensures in
+    let k = c .before .mark2 .ensures in
+    let h : l .q < 256 = omega (arith, c .before .before .loop-test .taken, d .few, d .left .few-states, d .right .few-states) in (
+      search needs,
+      ⊎-elim
+          (λ w. rw (w .3, w .4) (⊎-elim
+          (λ v. rw (v .1) (begun-first _ _ _ _ _ (l .inv .1) h (λ e. w .0 .taken (k ∙ e ∙ sym m)) (v .0 .taken)))
+          (λ v. rw (v .1) (begun-other _ _ _ _ _ (l .inv .1) h (λ e. w .0 .taken (k ∙ e ∙ sym m)) (d .left) (d .right) (omega (arith, c .before .before .loop-test .taken, d .few)) (v .0 .left)))
+          (w .1 .came)))
+          (λ w. rw (w .1, w .2) (begun-same _ _ _ _ _ (l .inv .1) (sym k ∙ w .0 .left ∙ m)))
+          (c .if1 .came),
+    )
+
+returns : tie.Need-returns Inv-loop μ-loop
+returns c = let e : c .before .loop .q ≡ c .before .before .before .before .before .args .n = omega arith in
+    (c .before .loop .inv .1 .long, begun-all _ _ _ _ _ (c .before .before .before .before .before .pre) (rw e at (c .before .loop .inv .1)))
+
+pub begin-spec : {M : Type 1} → statement M
+begin-spec = tie.close (tie.spec Inv-loop μ-loop mark-requires loop-holds mark-requires-2 cast-part mul-part array-write-part add-q loop-less loop-again returns)

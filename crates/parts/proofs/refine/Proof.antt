@@ -1,0 +1,68 @@
+-- part, parent and born are those after r rounds, none of which rested; there are at most n - 2 such rounds.
+use Prim.Native.Nat.{_-_, _≤_}
+use mathlib.Core.Path.{_≡_, refl, _∙_}
+use native.Mathlib.Omega.{arith}
+use borrow.Author.Needs.{needs}
+use lib.ListN.{length}
+use Rattle.parts.specs.Side.{side}
+use Rattle.parts.proofs.Turns.{After, after-none, after-more, after-few, after-own, after-done}
+use Rattle.parts.proofs.refine.Statement.{statement}
+use Rattle.parts.proofs.refine.Tie as tie
+
+abbrev Inv-loop : tie.InvT-loop
+Inv-loop a b n left right count part₀ next₀ parent₀ born₀ r₀ part next parent born r =
+    (length part ≡ 256) × (length next ≡ 256) × (length parent ≡ 256) × (length born ≡ 256) × After (side a b n) part parent born r
+
+abbrev μ-loop : tie.MeasureT-loop
+μ-loop a b n left right count part₀ next₀ parent₀ born₀ r₀ part next parent born r = n - r
+
+-- there are at most n - 2 rounds
+few : (c : tie.At-loop Inv-loop μ-loop) → c .loop .r ≤ c .before .before .before .before .before .before .before .args .n - 2
+few c = after-few _ (c .before .before .before .before .before .before .before .pre .closed) _ _ _ _ (c .loop .inv .4)
+
+classes-requires : tie.Need-classes-requires Inv-loop μ-loop
+classes-requires c κs = search needs
+
+begin-requires : tie.Need-begin-requires Inv-loop μ-loop
+begin-requires c κs = search needs
+
+loop-holds : tie.Need-loop-holds Inv-loop μ-loop
+loop-holds c = (c .begin .ensures .0, refl, refl, refl, after-none _ _ (c .begin .ensures .1))
+
+add-round : tie.Need-add-round Inv-loop μ-loop
+add-round c = omega (arith, few (c .before .before .before .before .before .before), c .before .before .before .before .before .before .before .before .before .before .before .before .before .fits .n)
+
+cast-round : tie.Need-cast-round Inv-loop μ-loop
+cast-round c = let d = c .before .before .before .before .before .before .before .before .before .before .before .before .before .pre in
+    omega (arith, few (c .before .before .before .before .before .before), d .few, d .left .few-states, d .right .few-states)
+
+round-requires : tie.Need-round-requires Inv-loop μ-loop
+round-requires c κs = let d = c .before .before .before .before .before .before .before .before .before .before .before .before .before .pre in
+    let l = c .before .before .before .before .before .before .loop in
+    (d, (c .before .before .before .before .before .before .before .before .before .before .classes .ensures, (after-own _ (d .closed) _ _ _ _ (l .inv .4), (l .inv .1, l .inv .2, l .inv .3))))
+
+add-r : tie.Need-add-r Inv-loop μ-loop
+add-r c = omega (arith, few (c .before .before .before .before .before .before .before .before), c .before .before .before .before .before .before .before .before .before .before .before .before .before .before .before .fits .n)
+
+loop-less : tie.Need-loop-less Inv-loop μ-loop
+loop-less c = omega (arith, few (c .before .before .before .before .before .before .before .before), c .before .before .before .before .before .before .before .before .before .before .before .before .before .before .before .pre .closed .some)
+
+loop-again : tie.Need-loop-again Inv-loop μ-loop
+loop-again c = let d = c .before .before .before .before .before .before .before .before .before .before .before .before .before .before .before .pre in
+    let l = c .before .before .before .before .before .before .before .before .loop in
+    let e = c .before .round .ensures in (
+      e .0 .long ∙ l .inv .1,
+      e .0 .long ∙ l .inv .1,
+      e .1 .0 .parent-long ∙ l .inv .2,
+      e .1 .0 .born-long ∙ l .inv .3,
+      after-more _ (d .closed) _ _ _ _ (l .inv .4) _ _ _ (e .0 .named) (e .1 .0) (e .1 .1 .yes (c .if1 .taken)),
+    )
+
+returns : tie.Need-returns Inv-loop μ-loop
+returns c = let d = c .before .before .before .before .before .before .before .before .before .before .before .before .before .before .before .pre in
+    let l = c .before .before .before .before .before .before .before .before .loop in
+    let e = c .before .round .ensures in
+    (after-done _ (d .closed) _ _ _ _ (l .inv .4) _ _ _ (e .0 .named) (e .1 .0) (e .1 .1 .no (c .if1 .left)), (l .inv .0, e .1 .0 .parent-long ∙ l .inv .2, e .1 .0 .born-long ∙ l .inv .3))
+
+pub refine-spec : {M : Type 1} → statement M
+refine-spec = tie.close (tie.spec Inv-loop μ-loop classes-requires begin-requires loop-holds add-round cast-round round-requires add-r loop-less loop-again returns)

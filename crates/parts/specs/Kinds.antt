@@ -1,0 +1,48 @@
+-- Kinds of bytes: two bytes are of one kind exactly if they have one class in the room a and one in the room b. Kinds are numbered by their least byte.
+--   pairOf a b x: the two classes of the byte x, as one number
+--   KindsTo a b kind least count e: the kinds that the bytes below e have: kind has the kind of each byte, least the least byte of each kind
+--   KindsOf a b kind least count: the kinds of all bytes
+--   Has a b c d x, Used a b left right i: the byte x has the classes c and d; some byte has those of the kind i
+--   ColumnsOf a b left right count: left and right have the classes of each kind in a and in b, and of nothing else
+use Prim.Native.Nat.{ℕ, _+_, _*_, _≤_, _<_}
+use mathlib.Core.Path.{_≡_}
+use mathlib.Core.List.{List}
+use lib.ListN.{length, getD}
+use Rattle.scope.specs.Limits.{byteValues, classLimit}
+use Rattle.scope.specs.Room.{classOf}
+
+abbrev pub pairOf : List ℕ → List ℕ → ℕ → ℕ
+pairOf a b x = classOf a x * classLimit + classOf b x
+
+pub record KindsTo (a b kind least : List ℕ) (count e : ℕ) : Type 0 where
+  pub kind-long : length kind ≡ byteValues
+  pub least-long : length least ≡ byteValues
+  pub some : 1 ≤ count
+  pub few : count ≤ e
+  pub below : (x : ℕ) → x < e → getD kind x 0 < count
+  pub low : (x : ℕ) → x < e → getD least (getD kind x 0) 0 ≤ x
+  pub left : (x : ℕ) → x < e → classOf a (getD least (getD kind x 0) 0) ≡ classOf a x
+  pub right : (x : ℕ) → x < e → classOf b (getD least (getD kind x 0) 0) ≡ classOf b x
+  pub one : (x y : ℕ) → x < e → y < e → classOf a x ≡ classOf a y → classOf b x ≡ classOf b y → getD kind x 0 ≡ getD kind y 0
+  pub byte : (i : ℕ) → i < count → getD least i 0 < e
+  pub own : (i : ℕ) → i < count → getD kind (getD least i 0) 0 ≡ i
+  pub rising : (i j : ℕ) → j < count → i < j → getD least i 0 < getD least j 0
+
+abbrev pub KindsOf : List ℕ → List ℕ → List ℕ → List ℕ → ℕ → Type 0
+KindsOf a b kind least count = KindsTo a b kind least count byteValues
+
+-- the byte x has the classes c and d
+pub record Has (a b : List ℕ) (c d x : ℕ) : Type 0 where
+  pub is-byte : x < byteValues
+  pub left : c ≡ classOf a x
+  pub right : d ≡ classOf b x
+
+-- some byte has the classes that the columns have for the kind i
+pub record Used (a b left right : List ℕ) (i : ℕ) : Type 0 where
+  pub byte : ℕ
+  pub has : Has a b (getD left i 0) (getD right i 0) byte
+
+pub record ColumnsOf (a b left right : List ℕ) (count : ℕ) : Type 0 where
+  pub few : count ≤ byteValues
+  pub used : (i : ℕ) → i < count → Used a b left right i
+  pub all : (x : ℕ) → x < byteValues → (i : ℕ) × (i < count) × Has a b (getD left i 0) (getD right i 0) x

@@ -1,0 +1,6 @@
+-- What the contracts of the refinement cite.
+pub mod Side
+pub mod Kinds
+pub mod Parts
+pub mod Round
+pub mod Refined

@@ -1,0 +1,42 @@
+-- One round: old has the parts before, new those after it. A state that begins a part keeps it for ever; the part that it lay in before is its parent.
+--   Within R old h e l: l is below e and begins a new part within the old part that h begins
+--   Last R old h e l: l is the last such state; 0 if there is none
+--   Chain R old link e: from h, link leads to the last such state, and from each to the one before it; each state below e has a first
+--   Opens old new x: x begins a part in new and not in old
+--   Opened old new e: some state below e does
+--   Births old new parent parent′ born born′ r e: the states below e that do are born in round r; for the others nothing has changed
+use Prim.Native.Nat.{ℕ, _<_}
+use mathlib.Core.Path.{_≡_}
+use mathlib.Core.List.{List}
+use lib.ListN.{length, getD}
+use Rattle.parts.specs.Parts.{First}
+
+pub record Within (R : ℕ → ℕ → Type 0) (old : List ℕ) (h e l : ℕ) : Type 0 where
+  pub above : h < l
+  pub below : l < e
+  pub begins : First R l l
+  pub part : getD old l 0 ≡ h
+
+pub record Last (R : ℕ → ℕ → Type 0) (old : List ℕ) (h e l : ℕ) : Type 0 where
+  pub is : 0 < l → Within R old h e l
+  pub none : (p : ℕ) → l < p → Within R old h e p → ⊥
+
+pub record Chain (R : ℕ → ℕ → Type 0) (old link : List ℕ) (e : ℕ) : Type 0 where
+  pub top : (h : ℕ) → h < e → getD old h 0 ≡ h → Last R old h e (getD link h 0)
+  pub down : (p : ℕ) → p < e → First R p p → getD old p 0 < p → Last R old (getD old p 0) p (getD link p 0)
+  pub begun : (p : ℕ) → p < e → (x : ℕ) × First R p x
+
+pub record Opens (old new : List ℕ) (x : ℕ) : Type 0 where
+  pub begins : getD new x 0 ≡ x
+  pub began : getD old x 0 ≡ x → ⊥
+
+pub record Opened (old new : List ℕ) (e : ℕ) : Type 0 where
+  pub state : ℕ
+  pub is-state : state < e
+  pub opens : Opens old new state
+
+pub record Births (old new parent parent′ born born′ : List ℕ) (r e : ℕ) : Type 0 where
+  pub made : (x : ℕ) → x < e → Opens old new x → (getD parent′ x 0 ≡ getD old x 0) × (getD born′ x 0 ≡ r)
+  pub kept : (x : ℕ) → (x < e → Opens old new x → ⊥) → (getD parent′ x 0 ≡ getD parent x 0) × (getD born′ x 0 ≡ getD born x 0)
+  pub parent-long : length parent′ ≡ length parent
+  pub born-long : length born′ ≡ length born

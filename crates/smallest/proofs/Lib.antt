@@ -1,0 +1,10 @@
+pub mod Arrival
+pub mod ByKind
+pub mod Swept
+pub mod Numbering
+pub mod Classes
+pub mod Image
+pub mod Stays
+pub mod Stored
+pub mod Table
+pub mod Ready

@@ -1,0 +1,106 @@
+-- A room is canonical exactly if its plan changes nothing of it: the image, as a list, is canonical, so a canonical room has its bytes; and where the plan changes
+-- nothing, the image has the room's.
+--   stays-canonical, canonical-stays, stays-decides: the two directions, and the test
+use Prim.Native.Nat.{ℕ, zero, suc, _+_, _-_, _*_, _/_, _%_, _≤_, _<_}
+use mathlib.Core.Path.{_≡_, refl, sym, _∙_}
+use mathlib.Core.Bool.{Bool}
+use mathlib.Core.Logic.{inl, inr}
+use mathlib.Core.List.{List, [], _∷_}
+use native.Mathlib.Nat.{mod-lt, div-add-mod', div-lt-iff-lt-mul}
+use native.Mathlib.Omega.{arith}
+use lib.ListN.{length, getD, length-append, List·getD-append}
+use lib.Seq.{getD-at}
+use Rattle.scope.specs.Limits.{classesAt, cellsAt, roomBytes}
+use Rattle.scope.specs.Room.{statesOf, classesOf, machine, Sound}
+use Rattle.scope.specs.Canonical.{Canonical}
+use Rattle.scope.specs.Samples.{listed}
+use Rattle.scope.proofs.Tests.{split}
+use Rattle.scope.proofs.Room.{SameBytes, bytes-from-parts}
+use Rattle.scope.proofs.Run.{sound-closed}
+use Rattle.scope.proofs.Agree.{agree-same}
+use Rattle.scope.proofs.Moved.{moved-agree, canonical-moved}
+use Rattle.scope.proofs.Unique.{unique}
+use Rattle.slices.specs.Parts.{Decides}
+use Rattle.smallest.specs.declared.Plan.{Plan}
+use Rattle.smallest.specs.Image.{Planned, imageByte, Stays}
+use Rattle.smallest.proofs.Image.{N, is-states, is-classes, is-class, is-mark, at-cell, some-class, states-few, table-few, image-sound, image-agree, image-canonical, image-equal}
+
+length-listed : (f : ℕ → ℕ) (n : ℕ) → length (listed f n) ≡ n
+unfolding listed
+length-listed f zero = refl
+length-listed f (suc n) = length-append (listed f n) (f n ∷ []) ∙ omega (arith, length-listed f n)
+
+getD-listed : (f : ℕ → ℕ) (n i : ℕ) → i < n → getD (listed f n) i 0 ≡ f i
+unfolding listed
+getD-listed f (suc n) i h = elim (split i n) [
+  | inl k ↦ List·getD-append (listed f n) (f n ∷ []) 0 i (omega (arith, length-listed f n)) ∙ getD-listed f n i k
+  | inr k ↦ let e : i ≡ n = omega arith in rw e (getD-at (listed f n) (f n) [] 0 n (length-listed f n))
+]
+
+module _ {a : List ℕ} {p : Plan} (d : Planned a p) where
+  -- the image, as a list
+  m : List ℕ
+  m = listed (imageByte a p) roomBytes
+
+  long : roomBytes ≤ length m
+  unfolding m
+  long = omega (arith, length-listed (imageByte a p) roomBytes)
+
+  byte : (i : ℕ) → i < roomBytes → getD m i 0 ≡ imageByte a p i
+  unfolding m
+  byte = getD-listed (imageByte a p) roomBytes
+
+  pub stays-canonical : Stays a p → Canonical a
+  stays-canonical t = canonical-moved m a (d .sound .long) bytes (image-canonical d m long byte)
+    where
+      sound : Sound m
+      sound = image-sound d m long byte
+
+      leader : (c : ℕ) → c < p .classes → getD (p .leader) c 0 ≡ c
+      leader c h = let (x, b, i, f) = d .classed .holds c h in sym f ∙ sym (t .class x b) ∙ i
+
+      into : (q : ℕ) → q < p .states → getD (p .into) q 0 ≡ q
+      into q h = rw (t .order q h) at (d .smallest .own q h)
+
+      cell : (i : ℕ) → i < statesOf m * classesOf m → getD m (cellsAt + i) 0 ≡ getD a (cellsAt + i) 0
+      cell i h =
+          let k = p .classes in
+          let j : i < p .states * k = rw (is-states d m long byte, is-classes d m long byte) at h in
+          let q : i / k < p .states = div-lt-iff-lt-mul (some-class d) .1 j in
+          let c : i % k < k = mod-lt i (some-class d) in
+          let e : cellsAt + i - cellsAt ≡ i = omega arith in
+          let z : i / k * k + i % k ≡ i = div-add-mod' i k in
+          let v : getD a (cellsAt + i) 0 < p .states = rw (t .states) (d .sound .cells (cellsAt + i) (rw (← t .states, ← t .classes) (omega arith)) (omega arith)) in
+          byte (cellsAt + i) (omega (arith, table-few d)) ∙ at-cell a p (cellsAt + i) (states-few d) (omega arith) (omega arith)
+          ∙ rw (e, t .order (i / k) q, leader (i % k) c, ← t .classes, z) (into (getD a (cellsAt + i) 0) v)
+
+      bytes : SameBytes m a
+      bytes = bytes-from-parts m a (record {
+        states = is-states d m long byte ∙ t .states;
+        classes = is-classes d m long byte ∙ t .classes;
+        class = λ x h. is-class d m long byte x h ∙ t .class x h;
+        mark = λ q h. let k : q < p .states = rw (is-states d m long byte) at h in is-mark d m long byte q k ∙ rw (t .order q k);
+        cell = cell;
+      }) (sound .marks-off) (d .sound .marks-off) (sound .cells-off) (d .sound .cells-off)
+
+  pub canonical-stays : Canonical a → Stays a p
+  canonical-stays c = record {
+    states = sym (is-states d m long byte) ∙ sym (same 0 (omega arith));
+    classes = sym (is-classes d m long byte) ∙ sym (same 1 (omega arith));
+    order = order;
+    class = λ x h. sym (is-class d m long byte x h) ∙ sym (same (classesAt + x) (omega arith));
+  }
+    where
+      same : SameBytes a m
+      same = unique a m c (image-canonical d m long byte) (image-equal d m long byte)
+
+      order : (q : ℕ) → q < p .states → getD (p .order) q 0 ≡ q
+      order q h =
+          let k : q < statesOf a = omega (arith, d .smallest .few) in
+          c .reduced (getD (p .order) q 0) q (d .smallest .inside q h) k (λ w g.
+          sym (d .smallest .same q h w g) ∙ agree-same (N d) (machine m) (d .smallest .closed) (image-agree d m long byte) q h w g
+          ∙ sym (agree-same (machine a) (machine m) (sound-closed a (d .sound)) (moved-agree a m same (d .sound)) q k w g))
+
+  -- so whether it stays decides whether it is canonical
+  pub stays-decides : {r : Bool} → Decides r (Stays a p) → Decides r (Canonical a)
+  stays-decides t = record { yes = λ e. stays-canonical (t .yes e); no = λ e c. t .no e (canonical-stays c) }

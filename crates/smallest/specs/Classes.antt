@@ -1,0 +1,54 @@
+-- The classes of the smallest machine: kinds of bytes whose columns every state sends alike, numbered by their smallest byte.
+--   Alike: two columns of the room lead each state to the same state
+--   Found: the first class that has a column
+--   Merged: the classes of the first kinds
+--   Mapped, Classed: the classes of the bytes
+use Prim.Native.Nat.{ℕ, _≤_, _<_}
+use mathlib.Core.Path.{_≡_}
+use mathlib.Core.List.{List}
+use lib.ListN.{length, getD, replicate}
+use Rattle.scope.specs.Limits.{byteValues, classLimit}
+use Rattle.scope.specs.Room.{classesOf, classOf, cellOf}
+use Rattle.scope.specs.Canonical.{Arrival}
+use Rattle.scope.specs.Buffers.{Written}
+
+abbrev pub Alike : List ℕ → List ℕ → List ℕ → ℕ → ℕ → ℕ → Type 0
+Alike a order into n u v = (q : ℕ) → q < n → getD into (cellOf a (getD order q 0) u) 0 ≡ getD into (cellOf a (getD order q 0) v) 0
+
+-- c is the first of the k leaders that is alike to the column u, or k if none is
+pub record Found (a order into leader : List ℕ) (n k u c : ℕ) : Type 0 where
+  pub most : c ≤ k
+  pub has : c < k → Alike a order into n (getD leader c 0) u
+  pub none : (d : ℕ) → d < c → Alike a order into n (getD leader d 0) u → ⊥
+
+-- the first kind of the class c
+pub record Led (column sort leader : List ℕ) (e c : ℕ) : Type 0 where
+  pub kind : ℕ
+  pub inside : kind < e
+  pub class : getD sort kind 0 ≡ c
+  pub same : getD column kind 0 ≡ getD leader c 0
+  pub earlier : (j : ℕ) → j < kind → getD sort j 0 < c
+
+-- sort has the class of each of the first e kinds, leader the column of the first kind of each of the k classes
+pub record Merged (a order into column sort leader : List ℕ) (n k e : ℕ) : Type 0 where
+  pub sort-size : length sort ≡ byteValues
+  pub leader-size : length leader ≡ byteValues
+  pub few : k ≤ e
+  pub below : (j : ℕ) → j < e → getD sort j 0 < k
+  pub alike : (j : ℕ) → j < e → Alike a order into n (getD leader (getD sort j 0) 0) (getD column j 0)
+  pub led : (c : ℕ) → c < k → Led column sort leader e c
+  pub apart : (c d : ℕ) → d < k → c < d → Alike a order into n (getD leader c 0) (getD leader d 0) → ⊥
+
+-- class has the class of the kind of each byte
+abbrev pub Mapped : List ℕ → List ℕ → List ℕ → Type 0
+Mapped kind sort class = Written byteValues (λ x. getD sort (getD kind x 0) 0) (replicate byteValues 0) class
+
+-- class has the class of each byte, leader the column of each of the k classes
+pub record Classed (a order into class leader : List ℕ) (n k : ℕ) : Type 0 where
+  pub few : k ≤ classLimit
+  pub inside : (c : ℕ) → c < k → getD leader c 0 < classesOf a
+  pub below : (x : ℕ) → x < byteValues → getD class x 0 < k
+  pub alike : (x : ℕ) → x < byteValues → Alike a order into n (getD leader (getD class x 0) 0) (classOf a x)
+  pub share : (x y : ℕ) → x < byteValues → y < byteValues → Alike a order into n (classOf a x) (classOf a y) → getD class x 0 ≡ getD class y 0
+  pub holds : (c : ℕ) → c < k → (x : ℕ) × (x < byteValues) × (getD class x 0 ≡ c) × (classOf a x ≡ getD leader c 0)
+  pub smallest : Arrival (λ x. getD class x 0) 0 byteValues

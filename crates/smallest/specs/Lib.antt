@@ -1,0 +1,3 @@
+pub mod Numbering
+pub mod Classes
+pub mod Image

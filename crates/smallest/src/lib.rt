@@ -1,0 +1,95 @@
+// From any sound room the canonical room of the same strings. The states are refined into parts that no string tells apart, and those that are reached numbered on
+// first arrival; kinds of bytes that every state sends alike share a class; and what came out is written as a room. A room is canonical if nothing of it would change.
+mod merge;
+mod number;
+mod stay;
+mod write;
+
+use scope::Machine;
+use scope::Minimised;
+ghost use Prim.Native.Nat.{_≤_};
+ghost use lib.ListN.{length};
+ghost use Rattle.scope.specs.Answers.{minimisedNumber};
+ghost use Rattle.scope.specs.Limits.{roomBytes};
+ghost use Rattle.scope.specs.Machine.{Equal};
+ghost use Rattle.scope.specs.Room.{machine, Sound};
+ghost use Rattle.scope.specs.Canonical.{Canonical};
+ghost use Rattle.scope.specs.Buffers.{TailKept};
+ghost use Rattle.scope.specs.Minimise.{Minimises};
+ghost use Rattle.slices.specs.Parts.{Decides};
+ghost use Rattle.smallest.specs.Image.{Planned};
+
+// The smallest machine of a room: for each of its states one of the room's, for each of the room's its number; the class of each byte, and for each class one of the room's.
+pub struct Plan {
+    pub states: usize,
+    pub order: [u8; Machine::STATES],
+    pub into: [u8; Machine::STATES],
+    pub classes: usize,
+    pub class: [u8; 256],
+    pub leader: [u8; 256],
+}
+
+// The smallest machine of a sound room.
+fn make_plan(from: &[u8]) -> Plan
+    requires { ⌜ Sound (now from) ⌝ }
+    ensures { λ r. ⌜ Planned (now (from .entry)) r ⌝ }
+{
+    let bytes = parts::kinds(from, from);
+    let kind = bytes.kind;
+    let least = bytes.least;
+    let kinds = bytes.count;
+    let refined = parts::refine(from, from, from[0] as usize);
+    let part = refined.part;
+    let column = number::columns(from, &least, kinds);
+    let states = number::arrivals(from, &part, &column, kinds);
+    let order = states.order;
+    let into = states.into;
+    let n = states.count;
+    let classes = merge::merge(from, &order, &into, n, &column, kinds);
+    let sort = classes.sort;
+    let leader = classes.leader;
+    let class = merge::of_bytes(&kind, &sort);
+    Plan {
+        states: n,
+        order: order,
+        into: into,
+        classes: classes.count,
+        class: class,
+        leader: leader,
+    }
+}
+
+// Writes the canonical room of the strings of a sound room.
+pub fn smallest(from: &[u8], to: &mut [u8])
+    requires { ⌜ Sound (now from) ⌝ }
+    requires { ⌜ roomBytes ≤ length (now to) ⌝ }
+    ensures { λ _. ⌜ Canonical (now (to .exit)) × Equal (machine (now (from .entry))) (machine (now (to .exit))) × TailKept roomBytes (now (to .entry)) (now (to .exit)) ⌝ }
+{
+    write::write(from, make_plan(from), to);
+}
+
+// Whether a sound room is canonical.
+pub fn is_canonical(room: &[u8]) -> bool
+    requires { ⌜ Sound (now room) ⌝ }
+    ensures { λ r. ⌜ Decides r (Canonical (now (room .entry))) ⌝ }
+{
+    stay::stays(room, make_plan(room))
+}
+
+// Minimising: reads one room, and writes into another the canonical machine of the same strings.
+pub fn minimise(from: &[u8], to: &mut [u8], bytes: &mut [u8], words: &mut [u64]) -> Minimised
+    ensures { λ r. ⌜ Minimises (now (from .entry)) (now (to .entry)) (now (to .exit)) (now (bytes .entry)) (now (bytes .exit)) (now (words .entry)) (now (words .exit)) (minimisedNumber r) ⌝ }
+{
+    if from.len() < Machine::ROOM || to.len() < Machine::ROOM {
+        return Minimised::Room;
+    }
+    if bytes.len() < Machine::SCRATCH_BYTES || words.len() < Machine::SCRATCH_WORDS {
+        return Minimised::Room;
+    }
+    slices::clear(bytes, words);
+    if !room::is_sound(from) {
+        return Minimised::Form;
+    }
+    smallest(from, to);
+    Minimised::Done
+}

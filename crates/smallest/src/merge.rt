@@ -1,0 +1,115 @@
+// The classes: the kinds of bytes whose columns lead each state to the same state. The kinds come in the order of their least bytes, and a kind is compared with the
+// first of each class so far, so the classes are numbered by their smallest byte.
+use scope::Machine;
+ghost use Prim.Native.Nat.{_≤_, _<_};
+ghost use Rattle.scope.specs.Limits.{byteValues};
+ghost use Rattle.scope.specs.Room.{classesOf, Below};
+ghost use Rattle.slices.specs.Parts.{Decides};
+ghost use Rattle.smallest.specs.Numbering.{Rows};
+ghost use Rattle.smallest.specs.Classes.{Alike, Found, Merged, Mapped};
+
+// Whether the columns u and v lead each state to the same state.
+fn are_alike(
+    from: &[u8],
+    order: &[u8; Machine::STATES],
+    into: &[u8; Machine::STATES],
+    n: usize,
+    u: u8,
+    v: u8,
+) -> bool
+    requires { ⌜ Rows (now from) (now order) n ⌝ }
+    requires { ⌜ (u < classesOf (now from)) × (v < classesOf (now from)) ⌝ }
+    ensures { λ r. ⌜ Decides r (Alike (now (from .entry)) (now (order .entry)) (now (into .entry)) n u v) ⌝ }
+{
+    let k = from[1] as usize;
+    let mut q: usize = 0;
+    while q < n {
+        let row = order[q] as usize * k;
+        let x = from[Machine::CELLS_AT + (row + u as usize)] as usize;
+        let y = from[Machine::CELLS_AT + (row + v as usize)] as usize;
+        if into[x] != into[y] {
+            return false;
+        }
+        q += 1;
+    }
+    true
+}
+
+// The first of the k classes whose leader is alike to the column u, or k if there is none.
+fn find(
+    from: &[u8],
+    order: &[u8; Machine::STATES],
+    into: &[u8; Machine::STATES],
+    n: usize,
+    leader: &[u8; 256],
+    k: usize,
+    u: u8,
+) -> usize
+    requires { ⌜ Rows (now from) (now order) n ⌝ }
+    requires { ⌜ (k ≤ byteValues) × Below (now leader) 0 k (classesOf (now from)) × (u < classesOf (now from)) ⌝ }
+    ensures { λ r. ⌜ Found (now (from .entry)) (now (order .entry)) (now (into .entry)) (now (leader .entry)) n k u r ⌝ }
+{
+    let mut c: usize = 0;
+    while c < k {
+        if are_alike(from, order, into, n, leader[c], u) {
+            return c;
+        }
+        c += 1;
+    }
+    k
+}
+
+// The class of each kind, the column of each class, and how many classes there are.
+pub struct Classes {
+    pub sort: [u8; 256],
+    pub leader: [u8; 256],
+    pub count: usize,
+}
+
+// Merges the kinds whose columns are alike.
+pub fn merge(
+    from: &[u8],
+    order: &[u8; Machine::STATES],
+    into: &[u8; Machine::STATES],
+    n: usize,
+    column: &[u8; 256],
+    kinds: usize,
+) -> Classes
+    requires { ⌜ Rows (now from) (now order) n ⌝ }
+    requires { ⌜ (kinds ≤ byteValues) × Below (now column) 0 kinds (classesOf (now from)) ⌝ }
+    ensures { λ r. ⌜ Merged (now (from .entry)) (now (order .entry)) (now (into .entry)) (now (column .entry)) (r .sort) (r .leader) n (r .count) kinds ⌝ }
+{
+    let mut sort = [0u8; 256];
+    let mut leader = [0u8; 256];
+    let mut count: usize = 0;
+    let mut j: usize = 0;
+    while j < kinds {
+        let u = column[j];
+        let c = find(from, order, into, n, &leader, count, u);
+        sort[j] = c as u8;
+        if c == count {
+            leader[count] = u;
+            count += 1;
+        }
+        j += 1;
+    }
+    Classes {
+        sort: sort,
+        leader: leader,
+        count: count,
+    }
+}
+
+// The class of each byte: that of its kind.
+pub fn of_bytes(kind: &[u8; 256], sort: &[u8; 256]) -> [u8; 256]
+    requires { ⌜ Below (now kind) 0 byteValues byteValues ⌝ }
+    ensures { λ r. ⌜ Mapped (now (kind .entry)) (now (sort .entry)) r ⌝ }
+{
+    let mut class = [0u8; 256];
+    let mut x: usize = 0;
+    while x < 256 {
+        class[x] = sort[kind[x] as usize];
+        x += 1;
+    }
+    class
+}
