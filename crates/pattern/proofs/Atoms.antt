@@ -1,0 +1,120 @@
+-- Atoms: the first byte, and the one after a backslash, tell what an atom is.
+--   answer: what is said of everything that can be read, with one thing that can be
+--   leaf-empty, leaf-nothing, leaf-single, leaf-position: the atoms outside of parentheses
+--   ready-inner, answer-inner: an expression in parentheses
+use Prim.Native.Nat.{ℕ, _+_, _<_}
+use mathlib.Core.Path.{_≡_, refl, sym, ap, _∙_}
+use mathlib.Core.Bool.{true, false}
+use mathlib.Core.List.{List}
+use native.Mathlib.Decide.{ℕ-discrete}
+use native.Mathlib.Omega.{arith}
+use Rattle.scope.specs.Bytes.{byte}
+use Rattle.scope.specs.Grammar.{literal, escapable, plain, coded, Single, a-dot, a-literal, an-escape, a-class, Level, atoms, exprs, Reads, single, no-byte, no-word, in-group}
+use Rattle.scope.specs.Limits.{positionLimit}
+use Rattle.scope.specs.Tree.{Leaf, Tree, nothing, empty, position, group, setOf, expr}
+use Rattle.scope.proofs.Grammar.{single-on, reads-on}
+use Rattle.pattern.specs.declared.shapes.Part.{Part}
+use Rattle.pattern.specs.Parts.{Backslash, Some, Took}
+use Rattle.pattern.specs.Tails.{closes, Whole}
+use Rattle.pattern.specs.Right.{Alone, Blank, Moved}
+use Rattle.pattern.specs.Answer.{Ready, Found, Answer}
+use Rattle.pattern.proofs.Grammar.{other, single-in, reads-in}
+use Rattle.pattern.proofs.Classes.{some}
+use Rattle.pattern.proofs.Rights.{right-alone, right-empty, right-nothing, right-moved}
+use Rattle.pattern.proofs.Tails.{ready}
+
+pub answer : {l : Level} {s : List ℕ} {i k : ℕ} {y y′ w w′ : List ℕ} {g : Part} → Ready l k s i → ((j : ℕ) (t : Tree) → Whole l s i j t → Found t k y y′ w w′ g j) → Answer l s i k y y′ w w′ g
+answer p f =
+    let e = f (p .end) (p .tree) (p .whole) .next in
+    record { on = omega (arith, reads-on (p .whole .0)); inside = omega (arith, reads-in (p .whole .0)); says = f }
+
+module _ {s : List ℕ} where
+  -- an atom of one position opens no group, and its escape is of a byte
+  single-group : {i j : ℕ} {x : Leaf} → Single s i j x → byte s i ≡ 40 → ⊥
+  unfolding literal
+  single-group (a-dot h) e = omega arith
+  single-group (a-literal h) e = other literal h refl e
+  single-group (an-escape (plain h k)) e = omega arith
+  single-group (an-escape (coded h k l m)) e = omega arith
+  single-group (a-class h l k) e = omega arith
+
+  single-back : {i j : ℕ} {x : Leaf} → Single s i j x → byte s i ≡ 92 → (c : ℕ) → byte s (i + 1) ≡ c → escapable c ≡ false → (c ≡ 120 → ⊥) → ⊥
+  unfolding literal
+  single-back (a-dot h) e c d f n = omega arith
+  single-back (a-literal h) e c d f n = other literal h refl e
+  single-back (an-escape (plain h k)) e c d f n = other escapable k f d
+  single-back (an-escape (coded h k l m)) e c d f n = n (sym d ∙ k)
+  single-back (a-class h l k) e c d f n = omega arith
+
+  -- ---- outside of parentheses
+
+  is-empty : {i j : ℕ} {t : Tree} → byte s i ≡ 92 → byte s (i + 1) ≡ 101 → Reads s atoms i j t → (i + 2 ≡ j) × (t ≡ empty)
+  unfolding escapable
+  is-empty h e (single x) = absurd (single-back x h 101 e refl (λ z. omega arith))
+  is-empty h e (no-byte h′ k) = (refl, refl)
+  is-empty h e (no-word h′ k) = absurd (omega arith)
+  is-empty h e (in-group h′ r k) = absurd (omega arith)
+
+  is-nothing : {i j : ℕ} {t : Tree} → byte s i ≡ 92 → byte s (i + 1) ≡ 48 → Reads s atoms i j t → (i + 2 ≡ j) × (t ≡ nothing)
+  unfolding escapable
+  is-nothing h e (single x) = absurd (single-back x h 48 e refl (λ z. omega arith))
+  is-nothing h e (no-byte h′ k) = absurd (omega arith)
+  is-nothing h e (no-word h′ k) = (refl, refl)
+  is-nothing h e (in-group h′ r k) = absurd (omega arith)
+
+  is-single : {i j b : ℕ} {t : Tree} → (byte s i ≡ 40 → ⊥) → Backslash s i b → (b ≡ 101 → ⊥) → (b ≡ 48 → ⊥) → Reads s atoms i j t → (x : Leaf) × Single s i j x × (t ≡ position i x)
+  is-single n p e z (single x) = (_, x, refl)
+  is-single n p e z (no-byte h k) = absurd (e (p .yes h ∙ k))
+  is-single n p e z (no-word h k) = absurd (z (p .yes h ∙ k))
+  is-single n p e z (in-group h r k) = absurd (n h)
+
+  -- a byte after a backslash that is no 256
+  behind : {i b c : ℕ} → Backslash s i b → b ≡ c → (c ≡ 256 → ⊥) → (byte s i ≡ 92) × (byte s (i + 1) ≡ c)
+  behind {i} p e n = elim (ℕ-discrete (byte s i) 92) [ yes h ↦ (h, sym (p .yes h) ∙ e) | no h ↦ absurd (n (sym e ∙ p .no h)) ]
+
+  module _ {i k b : ℕ} (p : Ready atoms k s i) (q : Backslash s i b) where
+    pub leaf-empty : {y : List ℕ} {g : Part} → b ≡ 101 → Blank (i + 2) k true g → (w : List ℕ) → Answer atoms s i k y y w w g
+    unfolding expr
+    leaf-empty e m w = answer p (λ j t r. let (h, d) = behind q e (λ z. omega arith) in let (o, u) = is-empty h d (r .0) in record { next = m .nexts ∙ o; right = rw u (right-empty m) })
+
+    pub leaf-nothing : {y : List ℕ} {g : Part} → b ≡ 48 → Blank (i + 2) k false g → (w : List ℕ) → Answer atoms s i k y y w w g
+    unfolding expr
+    leaf-nothing e m w = answer p (λ j t r. let (h, d) = behind q e (λ z. omega arith) in let (o, u) = is-nothing h d (r .0) in record { next = m .nexts ∙ o; right = rw u (right-nothing m) })
+
+    module _ (n : byte s i ≡ 40 → ⊥) (e : b ≡ 101 → ⊥) (z : b ≡ 48 → ⊥) where
+      pub leaf-some : Some Single s i
+      leaf-some = let (x, r, d) = is-single n q e z (p .whole .0) in some Single (p .short) r (single-on r) (single-in r)
+
+      pub leaf-room : k < positionLimit
+      unfolding expr
+      leaf-room = let (x, r, d) = is-single n q e z (p .whole .0) in omega (arith, rw d at (p .brief))
+
+      pub leaf-single : {y y′ : List ℕ} {r : ℕ} {g : Part} → Took Single setOf s i k y y′ r → Alone r k g → (w : List ℕ) → Answer atoms s i k y y′ w w g
+      unfolding expr
+      leaf-single t m w = answer p (λ j u v. let (x, r, d) = is-single n q e z (v .0) in let (o, h) = t .says j x r in record { next = m .nexts ∙ o; right = rw d (right-alone h m) })
+
+-- ---- in parentheses
+
+record Inner (s : List ℕ) (i j : ℕ) (t : Tree) : Type 0 where
+  end : ℕ
+  tree : Tree
+  whole : Whole exprs s (i + 1) end tree
+  next : end + 1 ≡ j
+  is : t ≡ group i tree
+
+module _ {s : List ℕ} where
+  inner : {i j : ℕ} {t : Tree} → byte s i ≡ 40 → Reads s atoms i j t → Inner s i j t
+  unfolding closes
+  inner h (single x) = absurd (single-group x h)
+  inner h (no-byte h′ k) = absurd (omega arith)
+  inner h (no-word h′ k) = absurd (omega arith)
+  inner h (in-group h′ r k) = record { end = _; tree = _; whole = (r, rw k refl); next = refl; is = refl }
+
+  module _ {i k b : ℕ} (p : Ready atoms k s i) (q : b ≡ byte s i) (e : b ≡ 40) where
+    pub ready-inner : Ready exprs k s (i + 1)
+    unfolding expr
+    ready-inner = let x = inner (sym q ∙ e) (p .whole .0) in ready exprs (p .short) (x .whole) (rw (x .is) at (p .brief))
+
+    pub answer-inner : {y y′ w w′ : List ℕ} {g r : Part} → Answer exprs s (i + 1) k y y′ w w′ g → Moved g (g .next + 1) (g .null) r → Answer atoms s i k y y′ w w′ r
+    unfolding expr
+    answer-inner a m = answer p (λ j t v. let x = inner (sym q ∙ e) (v .0) in let f = a .says (x .end) (x .tree) (x .whole) in record { next = m .nexts ∙ ap (λ (n : ℕ). n + 1) (f .next) ∙ x .next; right = rw (x .is) (right-moved (f .right) m) })

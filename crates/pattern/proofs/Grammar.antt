@@ -1,0 +1,162 @@
+-- A text byte by byte: where a byte stands inside of it, and what the first byte of a thing tells of the rest. The end of the text is read as 256, which passes
+-- no test of the grammar.
+--   any-default, inside: a place inside of the text
+--   other: a byte that passes a test is none that fails it
+--   escape-in .. reads-in: what is read ends inside of the text
+--   escape-coded, escape-plain, class-escape, class-bare: the first bytes of an escape, and of a byte in a class, decide how it is read
+--   escape-head, items-head, not-star, not-stop: the first byte of an escape, of a class's items, of what the grammar reads
+use Prim.Native.Nat.{ℕ, zero, suc, _+_, _*_, _<_, _≤_}
+use mathlib.Core.Path.{_≡_, refl, sym, ap, _∙_}
+use mathlib.Core.Bool.{Bool, true, false, false≢true, _||_}
+use mathlib.Core.List.{List, _∷_, []}
+use mathlib.Core.Logic.{inl, inr}
+use native.Mathlib.Nat.{not-suc-le-zero, le-of-suc-le-suc}
+use native.Mathlib.Omega.{arith}
+use lib.Dec.{eqb}
+use lib.ListN.{length, getD, List·getD-eq-default}
+use Rattle.scope.specs.Bytes.{ByteSet, byte}
+use Rattle.scope.specs.Tree.{Item, Leaf, Tree}
+use Rattle.scope.specs.Grammar.{literal, escapable, classLiteral, hex, Escape, plain, coded, ClassByte, bare, escaped, OneItem, one-byte, low-high, Items, last-item, more-items, Single, a-dot, a-literal, an-escape, a-class, Level, Reads, single, no-byte, no-word, in-group, one-atom, one-star, one-factor, next-factor, one-branch, next-branch}
+use Rattle.scope.proofs.Tests.{split, or, equals}
+use Rattle.pattern.specs.Tails.{stops}
+
+-- inside of a list what is read past its end does not matter
+pub any-default : (s : List ℕ) (i d e : ℕ) → i < length s → getD s i d ≡ getD s i e
+any-default [] i d e h = absurd (not-suc-le-zero h)
+any-default (x ∷ s) zero d e h = refl
+any-default (x ∷ s) (suc i) d e h = any-default s i d e (le-of-suc-le-suc h)
+
+-- a byte that is not read as 256 stands inside of the text
+pub inside : (s : List ℕ) (i : ℕ) → (byte s i ≡ 256 → ⊥) → i < length s
+inside s i n = elim (split i (length s)) [ inl h ↦ h | inr h ↦ absurd (n (List·getD-eq-default s 256 h)) ]
+
+-- a byte that passes a test is none that fails it
+pub other : (f : ℕ → Bool) {n c : ℕ} → f n ≡ true → f c ≡ false → n ≡ c → ⊥
+other f h k e = false≢true (sym k ∙ ap f (sym e) ∙ h)
+
+-- ---- what is read ends inside of the text
+
+module _ {s : List ℕ} where
+  pub escape-in : {i j b : ℕ} → Escape s i j b → j ≤ length s
+  unfolding escapable hex
+  escape-in {i} (plain h k) = omega (arith, inside s (i + 1) (other escapable k refl))
+  escape-in {i} (coded h k l m) = omega (arith, inside s (i + 3) (λ e. omega (arith, ap hex e)))
+
+  pub class-byte-in : {i j b : ℕ} → ClassByte s i j b → j ≤ length s
+  unfolding classLiteral
+  class-byte-in {i} (bare h) = omega (arith, inside s i (other classLiteral h refl))
+  class-byte-in (escaped x) = escape-in x
+
+  pub item-in : {i j : ℕ} {x : Item} → OneItem s i j x → j ≤ length s
+  item-in (one-byte c) = class-byte-in c
+  item-in (low-high c h d) = class-byte-in d
+
+  pub items-in : {i j : ℕ} {l : List Item} → Items s i j l → j ≤ length s
+  items-in (last-item x) = item-in x
+  items-in (more-items x l) = items-in l
+
+  pub single-in : {i j : ℕ} {x : Leaf} → Single s i j x → j ≤ length s
+  unfolding literal
+  single-in {i} (a-dot h) = omega (arith, inside s i (λ e. omega arith))
+  single-in {i} (a-literal h) = omega (arith, inside s i (other literal h refl))
+  single-in (an-escape e) = escape-in e
+  single-in (a-class {j = j} h l k) = omega (arith, inside s j (λ e. omega arith))
+
+  pub reads-in : {l : Level} {i j : ℕ} {t : Tree} → Reads s l i j t → j ≤ length s
+  reads-in (single x) = single-in x
+  reads-in {i = i} (no-byte h k) = omega (arith, inside s (i + 1) (λ e. omega arith))
+  reads-in {i = i} (no-word h k) = omega (arith, inside s (i + 1) (λ e. omega arith))
+  reads-in (in-group {j = j} h r k) = omega (arith, inside s j (λ e. omega arith))
+  reads-in (one-atom r) = reads-in r
+  reads-in (one-star {j = j} r h) = omega (arith, inside s j (λ e. omega arith))
+  reads-in (one-factor r) = reads-in r
+  reads-in (next-factor r q) = reads-in q
+  reads-in (one-branch r) = reads-in r
+  reads-in (next-branch r h q) = reads-in q
+
+-- ---- how a byte is read
+
+module _ {s : List ℕ} where
+  pub escape-head : {i j b : ℕ} → Escape s i j b → byte s i ≡ 92
+  escape-head (plain h k) = h
+  escape-head (coded h k l m) = h
+
+  -- `\x`: two digits
+  pub escape-coded : {i j b a x y h l : ℕ} → Escape s i j b → a ≡ byte s (i + 1) → a ≡ 120 → x ≡ byte s (i + 2) → h ≡ hex x → y ≡ byte s (i + 3) → l ≡ hex y
+      → (h < 16) × (l < 16) × Escape s i (i + 4) (h * 16 + l)
+  unfolding escapable
+  escape-coded (plain h k) p e p₂ e₂ p₃ e₃ = absurd (other escapable k refl (sym p ∙ e))
+  escape-coded (coded h k l m) p e p₂ e₂ p₃ e₃ = rw (e₂, p₂, e₃, p₃) (l, m, coded h k l m)
+
+  -- another escape: that byte
+  pub escape-plain : {i j b a : ℕ} → Escape s i j b → a ≡ byte s (i + 1) → (a ≡ 120 → ⊥) → (a ≡ 256 → ⊥) × Escape s i (i + 2) a
+  unfolding escapable
+  escape-plain (plain h k) p n = rw p (other escapable k refl, plain h k)
+  escape-plain (coded h k l m) p n = absurd (n (p ∙ k))
+
+  -- a byte in a class, by its first byte
+  pub class-escape : {i j b : ℕ} → ClassByte s i j b → byte s i ≡ 92 → Escape s i j b
+  unfolding classLiteral
+  class-escape (bare h) e = absurd (other classLiteral h refl e)
+  class-escape (escaped x) e = x
+
+  pub class-bare : {i j b a : ℕ} → ClassByte s i j b → a ≡ byte s i → (a ≡ 92 → ⊥) → (a ≡ 256 → ⊥) × ClassByte s i (i + 1) a
+  unfolding classLiteral
+  class-bare (bare h) p n = rw p (other classLiteral h refl, bare h)
+  class-bare (escaped x) p n = absurd (n (p ∙ escape-head x))
+
+-- ---- first bytes
+
+module _ {s : List ℕ} where
+  -- a byte of a class begins with no byte that is neither bare nor a backslash
+  class-byte-head : {i j b : ℕ} → ClassByte s i j b → (c : ℕ) → classLiteral c ≡ false → (c ≡ 92 → ⊥) → byte s i ≡ c → ⊥
+  class-byte-head (bare h) c f n e = other classLiteral h f e
+  class-byte-head (escaped x) c f n e = n (sym e ∙ escape-head x)
+
+  item-head : {i j : ℕ} {x : Item} → OneItem s i j x → (c : ℕ) → classLiteral c ≡ false → (c ≡ 92 → ⊥) → byte s i ≡ c → ⊥
+  item-head (one-byte d) = class-byte-head d
+  item-head (low-high d g v) = class-byte-head d
+
+  pub items-head : {i j : ℕ} {l : List Item} → Items s i j l → (c : ℕ) → classLiteral c ≡ false → (c ≡ 92 → ⊥) → byte s i ≡ c → ⊥
+  items-head (last-item x) = item-head x
+  items-head (more-items x l) = item-head x
+
+-- b begins an atom
+unfoldable begins : ByteSet
+unfolding literal
+begins b = literal b || (eqb b 40 || (eqb b 46 || (eqb b 91 || eqb b 92)))
+
+module _ {s : List ℕ} where
+  single-begins : {i j : ℕ} {x : Leaf} → Single s i j x → begins (byte s i) ≡ true
+  unfolding begins
+  single-begins (a-dot h) = rw h refl
+  single-begins (a-literal h) = rw h refl
+  single-begins (an-escape x) = rw (escape-head x) refl
+  single-begins (a-class h l k) = rw h refl
+
+  reads-begins : {l : Level} {i j : ℕ} {t : Tree} → Reads s l i j t → begins (byte s i) ≡ true
+  unfolding begins
+  reads-begins (single x) = single-begins x
+  reads-begins (no-byte h k) = rw h refl
+  reads-begins (no-word h k) = rw h refl
+  reads-begins (in-group h r k) = rw h refl
+  reads-begins (one-atom r) = reads-begins r
+  reads-begins (one-star r h) = reads-begins r
+  reads-begins (one-factor r) = reads-begins r
+  reads-begins (next-factor r q) = reads-begins r
+  reads-begins (one-branch r) = reads-begins r
+  reads-begins (next-branch r h q) = reads-begins r
+
+  -- no star, and nothing that ends a branch
+  pub not-star : {l : Level} {i j : ℕ} {t : Tree} → Reads s l i j t → byte s i ≡ 42 → ⊥
+  unfolding begins
+  not-star r = other begins (reads-begins r) refl
+
+  pub not-stop : {l : Level} {i j : ℕ} {t : Tree} → Reads s l i j t → stops (byte s i) ≡ true → ⊥
+  unfolding begins stops
+  not-stop {i = i} r h =
+      elim (or (or (equals (byte s i) 41) (equals (byte s i) 256)) (equals (byte s i) 124) .sound h) [
+        | inl (inl e) ↦ other begins (reads-begins r) refl (sym e)
+        | inl (inr e) ↦ other begins (reads-begins r) refl (sym e)
+        | inr e ↦ other begins (reads-begins r) refl (sym e)
+      ]

@@ -1,0 +1,64 @@
+-- The whole text is an expression that ends with the text, and the buffers are empty at first: what came in is all that is there.
+--   ready-text: a judged text can be read
+--   reading: what was read of it is what is promised
+use Prim.Native.Nat.{ℕ, _+_, _*_, _/_, _%_}
+use mathlib.Core.Path.{_≡_, refl, ap, _∙_}
+use mathlib.Core.Bool.{_||_}
+use mathlib.Core.List.{List}
+use native.Mathlib.Nat.{zero-add}
+use native.Mathlib.Omega.{arith}
+use lib.Bits.{bitOr, or-zero-l}
+use lib.ListN.{length, length-append, List·getD-eq-default}
+use Rattle.scope.specs.Bits.{has, follow, holders}
+use Rattle.scope.specs.Grammar.{exprs}
+use Rattle.scope.specs.Judge.{Pattern}
+use Rattle.scope.specs.Limits.{setWords}
+use Rattle.scope.specs.Re.{size}
+use Rattle.scope.specs.Tree.{Tree, nothing, empty, position, group, starred, beside, either, expr, places}
+use Rattle.scope.proofs.Bits.{has-zero}
+use Rattle.sets.specs.Value.{value}
+use Rattle.sets.proofs.Words.{set-none}
+use Rattle.pattern.specs.declared.Shape.{Shape}
+use Rattle.pattern.specs.declared.shapes.Part.{Part}
+use Rattle.pattern.specs.Held.{byteSets, held}
+use Rattle.pattern.specs.Tails.{closes, Whole}
+use Rattle.pattern.specs.Right.{wordSets}
+use Rattle.pattern.specs.Answer.{Ready, Answer}
+use Rattle.pattern.specs.Reading.{Judged, Clear, Reading}
+use Rattle.pattern.proofs.Tails.{ready}
+
+-- a tree has a place for each position
+places-size : (t : Tree) → length (places t) ≡ size (expr t)
+unfolding places expr
+places-size nothing = refl
+places-size empty = refl
+places-size (position i x) = refl
+places-size (group i t) = places-size t
+places-size (starred t) = places-size t
+places-size (beside t u) = simp length-append (omega (arith, places-size t, places-size u))
+places-size (either t u) = simp length-append (omega (arith, places-size t, places-size u))
+
+whole : (s : List ℕ) (t : Tree) → Pattern s t → Whole exprs s 0 (length s) t
+unfolding closes
+whole s t r = (r, rw (List·getD-eq-default s 256 {n = length s} (omega arith)) refl)
+
+pub ready-text : {s : List ℕ} → Judged s → Ready exprs 0 s 0
+ready-text {s} p = ready exprs (p .short) (whole s (p .tree) (p .sized .pattern)) (omega (arith, places-size (p .tree), p .sized .brief))
+
+pub reading : {s y y′ w w′ : List ℕ} {g : Part} {r : Shape} → Clear byteSets y → Clear wordSets w → Answer exprs s 0 0 y y′ w w′ g
+    → r .size ≡ g .count → r .null ≡ g .null → value (r .first .words) ≡ value (g .first .words) → value (r .last .words) ≡ value (g .last .words) → Reading s y y′ w w′ r
+unfolding held
+reading {s} {y} {w = w} cy cw a es en ef el = record {
+  says = λ t h.
+      let x = a .says (length s) t (whole s t h) .right in
+      record {
+        sizes = es ∙ x .counts ∙ zero-add (size (expr t));
+        nulls = en ∙ x .nulls;
+        firsts = ef ∙ x .firsts;
+        lasts = el ∙ x .lasts;
+        follows = λ p k. x .follows .sets p ∙ ap (λ (n : ℕ). bitOr n (follow (expr t) 0 p)) (set-none w p (λ i l. cw .zero (p * setWords + i) (omega arith))) ∙ or-zero-l (follow (expr t) 0 p);
+        holds = λ q b k l. x .holds .bits q b l ∙ ap (λ (n : ℕ). has n (b % 8) || has (holders (expr t) 0 b) (q + 1)) (cy .zero (q * 32 + b / 8) (omega arith)) ∙ rw has-zero refl;
+        words-kept = x .follows .kept;
+        bytes-kept = x .holds .kept;
+      };
+}

@@ -1,0 +1,152 @@
+-- The four readers meet their contracts, together: each may use what the others promise of a call whose measure is less. The measure is four times the bytes
+-- that are left, and then the level: an expression calls a branch at the same place, a branch a factor, a factor an atom; only an atom starts anew, after
+-- its `(`, and there a byte less is left. So do the loops, whose turns begin after what was read.
+-- A call needs something to read there. It is found in the tree that is known to be there: its first part (`ready-atom`, `ready-factor`, `ready-branch`), what
+-- stands in its parentheses (`ready-inner`), or the next part in the tail (`factor-ready`, `branch-ready`).
+-- The invariant of a loop: whatever its first part began, that part and those read since begin it, too (`Carried`). A turn makes it so for one part more, and
+-- where the next byte ends the branch or the expression, what was read is all of it.
+use borrow.Author.Needs.{needs}
+use Prim.Native.Nat.{ℕ, _+_, _*_, _-_, _<_, _≤_}
+use mathlib.Core.Path.{_≡_, refl, sym, _∙_}
+use native.Mathlib.Omega.{arith}
+use lib.ListN.{length}
+use Rattle.scope.specs.Grammar.{branches, exprs}
+use Rattle.pattern.specs.Answer.{Carried}
+use Rattle.pattern.proofs.Tails.{first-branch, first-expr, ready-atom, ready-factor, ready-branch, carried-none, carried-more}
+use Rattle.pattern.proofs.Atoms.{ready-inner, answer-inner}
+use Rattle.pattern.proofs.Rights.{right-within}
+use Rattle.pattern.proofs.Turns.{factor-fit, factor-found, going, going-small, going-found, factor-last, branch-last, factor-ready, branch-ready, is-on, is-off, factor-turn, branch-turn}
+use borrow.Fn.Kinds.{In}
+use borrow.Fn.PlainCycle.{Measures, is, falls, and}
+use Rattle.pattern.proofs.readers.atom.Reads as atom
+use Rattle.pattern.proofs.readers.atom.Kinds as atom-kinds
+use Rattle.pattern.proofs.readers.+atom+branch+expr+factor.Lts-atom as atom-lts
+use Rattle.pattern.proofs.readers.branch.Reads as branch
+use Rattle.pattern.proofs.readers.branch.Kinds as branch-kinds
+use Rattle.pattern.proofs.readers.+atom+branch+expr+factor.Lts-branch as branch-lts
+use Rattle.pattern.proofs.readers.expr.Reads as expr
+use Rattle.pattern.proofs.readers.expr.Kinds as expr-kinds
+use Rattle.pattern.proofs.readers.+atom+branch+expr+factor.Lts-expr as expr-lts
+use Rattle.pattern.proofs.readers.factor.Reads as factor
+use Rattle.pattern.proofs.readers.factor.Kinds as factor-kinds
+use Rattle.pattern.proofs.readers.+atom+branch+expr+factor.Lts-factor as factor-lts
+use Rattle.pattern.proofs.leaves.leaf.Reads as leaf-reads
+use Rattle.pattern.proofs.readers.stars.Reads as stars-reads
+use Rattle.pattern.proofs.shapes.beside.Reads as beside-reads
+use Rattle.pattern.proofs.shapes.either.Reads as either-reads
+use Rattle.pattern.proofs.shapes.link.Reads as link-reads
+use Rattle.pattern.proofs.shapes.moved.Reads as moved-reads
+use Rattle.pattern.proofs.text.byte_at.Reads as byte-at-reads
+use Rattle.pattern.proofs.text.goes_on.Reads as goes-on-reads
+use Rattle.pattern.proofs.readers.+atom+branch+expr+factor.{statement}
+use Rattle.pattern.proofs.readers.+atom+branch+expr+factor.Tie.{close}
+
+abbrev μ-atom : Measures 3 atom-kinds.ps ℕ
+μ-atom κs a = 4 * (length (a .0 .now) - a .1 .0) + 0
+
+abbrev μ-branch : Measures 3 branch-kinds.ps ℕ
+μ-branch κs a = 4 * (length (a .0 .now) - a .1 .0) + 2
+
+abbrev μ-expr : Measures 3 expr-kinds.ps ℕ
+μ-expr κs a = 4 * (length (a .0 .now) - a .1 .0) + 3
+
+abbrev μ-factor : Measures 3 factor-kinds.ps ℕ
+μ-factor κs a = 4 * (length (a .0 .now) - a .1 .0) + 1
+
+abbrev atom-at : ℕ → In 3 atom-kinds.ps
+atom-at t = and 3 atom-kinds.ps (is 3 atom-kinds.ps μ-atom t) atom.Pre
+
+abbrev atom-below : ℕ → In 3 atom-kinds.ps
+atom-below t = and 3 atom-kinds.ps (falls 3 atom-kinds.ps _<_ μ-atom t) atom.Pre
+
+abbrev branch-at : ℕ → In 3 branch-kinds.ps
+branch-at t = and 3 branch-kinds.ps (is 3 branch-kinds.ps μ-branch t) branch.Pre
+
+abbrev branch-below : ℕ → In 3 branch-kinds.ps
+branch-below t = and 3 branch-kinds.ps (falls 3 branch-kinds.ps _<_ μ-branch t) branch.Pre
+
+abbrev expr-at : ℕ → In 3 expr-kinds.ps
+expr-at t = and 3 expr-kinds.ps (is 3 expr-kinds.ps μ-expr t) expr.Pre
+
+abbrev expr-below : ℕ → In 3 expr-kinds.ps
+expr-below t = and 3 expr-kinds.ps (falls 3 expr-kinds.ps _<_ μ-expr t) expr.Pre
+
+abbrev factor-at : ℕ → In 3 factor-kinds.ps
+factor-at t = and 3 factor-kinds.ps (is 3 factor-kinds.ps μ-factor t) factor.Pre
+
+abbrev factor-below : ℕ → In 3 factor-kinds.ps
+factor-below t = and 3 factor-kinds.ps (falls 3 factor-kinds.ps _<_ μ-factor t) factor.Pre
+
+abbrev branch-Inv-loop : branch-lts.InvT-loop
+branch-Inv-loop text at count bytes₀ words₀ all₀ bytes words all = (at < all .next) × (all .next ≤ length text) × (length bytes ≡ length bytes₀) × (length words ≡ length words₀) × Carried branches text bytes₀ words₀ all₀ bytes words all
+
+abbrev branch-μ-loop : branch-lts.MeasureT-loop
+branch-μ-loop text at count bytes₀ words₀ all₀ bytes words all = length text - all .next
+
+abbrev expr-Inv-loop : expr-lts.InvT-loop
+expr-Inv-loop text at count bytes₀ words₀ all₀ bytes words all = (at < all .next) × (all .next ≤ length text) × (length bytes ≡ length bytes₀) × (length words ≡ length words₀) × Carried exprs text bytes₀ words₀ all₀ bytes words all
+
+abbrev expr-μ-loop : expr-lts.MeasureT-loop
+expr-μ-loop text at count bytes₀ words₀ all₀ bytes words all = length text - all .next
+
+atom-part : {M : Type 1} (t : ℕ) → atom-lts.Closed (byte-at-reads.Asked, byte-at-reads.Learnt, expr-below t, expr.Post, moved-reads.Asked, moved-reads.Learnt, leaf-reads.Asked, leaf-reads.Learnt) (atom-at t) atom.Post M
+atom-part t = atom-lts.spec (byte-at-reads.Asked, byte-at-reads.Learnt, expr-below t, expr.Post, moved-reads.Asked, moved-reads.Learnt, leaf-reads.Asked, leaf-reads.Learnt) (atom-at t)
+    atom.Post
+    (λ c κs. search needs)
+    (λ c. search needs)
+    (λ c κs. (omega arith, (ready-inner (c .before .before .before .before .before .before .before .pre .1 .0) (c .before .before .before .byte-at .ensures .0) (c .before .before .if1 .taken), search needs)))
+    (λ c. search needs)
+    (λ c κs. search needs)
+    (λ c κs. ((c .before .before .before .before .before .before .pre .1 .0, λ e. c .before .if1 .left (c .before .before .byte-at .ensures .0 ∙ e)), search needs))
+    (λ c. search needs)
+    (λ c. search needs)
+    (λ c. answer-inner (c .before .before .before .before .before .before .before .before .before .before .before .before .before .before .pre .1 .0) (c .before .before .before .before .before .before .before .before .before .before .byte-at .ensures .0) (c .before .before .before .before .before .before .before .before .before .if1 .taken) (c .before .before .before .before .before .before .expr .ensures) (c .moved .ensures))
+    (λ c. search needs)
+    (λ c. c .before .before .leaf .ensures _)
+
+branch-part : {M : Type 1} (t : ℕ) → branch-lts.Closed (factor-below t, factor.Post, byte-at-reads.Asked, byte-at-reads.Learnt, goes-on-reads.Asked, goes-on-reads.Learnt, link-reads.Asked, link-reads.Learnt, beside-reads.Asked, beside-reads.Learnt) (branch-at t) branch.Post M
+branch-part t = branch-lts.spec (factor-below t, factor.Post, byte-at-reads.Asked, byte-at-reads.Learnt, goes-on-reads.Asked, goes-on-reads.Learnt, link-reads.Asked, link-reads.Learnt, beside-reads.Asked, beside-reads.Learnt) (branch-at t)
+    branch.Post
+    branch-Inv-loop
+    branch-μ-loop
+    (λ c κs. (omega arith, (ready-factor (c .before .before .before .before .before .pre .1 .0), search needs)))
+    (λ c. (c .before .before .before .before .factor .ensures .on, c .before .before .before .before .factor .ensures .inside, refl, refl, carried-none _ _ _ _ _))
+    (λ c κs. search needs)
+    (λ c κs. search needs)
+    (λ c κs. let p = c .before .before .before .before .before .before .before .before .before .before .before .before .before .before .before .before .pre .1 .0 in let q = going (λ i j t. first-branch) p (c .before .before .before .before .before .before .before .before .before .before .factor .ensures) (c .before .before .before .before .before .loop .inv .4) in (omega arith, (factor-ready p q (is-on _ (c .before .before .before .before .byte-at .ensures .0) (c .before .before .before .goes-on .ensures) (c .before .before .if1 .taken)), search needs)))
+    (λ c κs. let p = c .before .before .before .before .before .before .before .before .before .before .before .before .before .before .before .before .before .before .before .before .before .before .pre .1 .0 in let q = going (λ i j t. first-branch) p (c .before .before .before .before .before .before .before .before .before .before .before .before .before .before .before .before .factor .ensures) (c .before .before .before .before .before .before .before .before .before .before .before .loop .inv .4) in ((going-small q (p .brief), omega (arith, c .before .before .before .before .before .before .before .before .before .before .before .before .before .before .before .before .before .before .before .before .before .before .pre .1 .1 .words, c .before .before .before .before .before .before .before .before .before .before .before .loop .inv .3, c .before .before .before .before .before .before .before .before .before .before .before .before .before .words .given, c .before .before .words2 .given)), right-within (q .right)))
+    (λ c κs. search needs)
+    (λ c. search needs)
+    (λ c. (omega arith, omega arith, search needs, search needs, carried-more (c .before .before .before .before .before .before .before .before .before .before .before .before .before .before .before .loop .inv .4) (factor-turn (is-on _ (c .before .before .before .before .before .before .before .before .before .before .before .before .before .before .byte-at .ensures .0) (c .before .before .before .before .before .before .before .before .before .before .before .before .before .goes-on .ensures) (c .before .before .before .before .before .before .before .before .before .before .before .before .if1 .taken)) (c .before .before .before .before .before .before .before .before .before .factor2 .ensures) (c .before .before .before .link .ensures) (c .beside .ensures))))
+    (λ c. search needs)
+    (λ c. search needs)
+    (λ c. going-found (λ i j t. first-branch) (c .before .before .before .before .before .before .before .before .before .before .before .before .before .before .pre .1 .0) (c .before .before .before .before .before .before .before .before .factor .ensures) (c .before .before .before .loop .inv .4) (λ t u j x. factor-last x (is-off _ (c .before .before .byte-at .ensures .0) (c .before .goes-on .ensures) (c .if1 .left))))
+
+expr-part : {M : Type 1} (t : ℕ) → expr-lts.Closed (branch-below t, branch.Post, byte-at-reads.Asked, byte-at-reads.Learnt, either-reads.Asked, either-reads.Learnt) (expr-at t) expr.Post M
+expr-part t = expr-lts.spec (branch-below t, branch.Post, byte-at-reads.Asked, byte-at-reads.Learnt, either-reads.Asked, either-reads.Learnt) (expr-at t)
+    expr.Post
+    expr-Inv-loop
+    expr-μ-loop
+    (λ c κs. (omega arith, (ready-branch (c .before .before .before .before .before .pre .1 .0), search needs)))
+    (λ c. (c .before .before .before .before .branch .ensures .on, c .before .before .before .before .branch .ensures .inside, refl, refl, carried-none _ _ _ _ _))
+    (λ c κs. search needs)
+    (λ c. search needs)
+    (λ c κs. let p = c .before .before .before .before .before .before .before .before .before .before .before .before .before .before .before .before .pre .1 .0 in let q = going (λ i j t. first-expr) p (c .before .before .before .before .before .before .before .before .before .before .branch .ensures) (c .before .before .before .before .before .loop .inv .4) in (omega arith, (branch-ready p q (sym (c .before .before .before .before .byte-at .ensures .0) ∙ c .before .before .before .if1 .taken), search needs)))
+    (λ c κs. search needs)
+    (λ c. search needs)
+    (λ c. (omega arith, omega arith, search needs, search needs, carried-more (c .before .before .before .before .before .before .before .before .before .before .before .loop .inv .4) (branch-turn (sym (c .before .before .before .before .before .before .before .before .before .before .byte-at .ensures .0) ∙ c .before .before .before .before .before .before .before .before .before .if1 .taken) (c .before .before .before .before .before .branch2 .ensures) (c .either .ensures))))
+    (λ c. search needs)
+    (λ c. search needs)
+    (λ c. going-found (λ i j t. first-expr) (c .before .before .before .before .before .before .before .before .before .before .before .before .before .pre .1 .0) (c .before .before .before .before .before .before .before .branch .ensures) (c .before .before .loop .inv .4) (λ t u j x. branch-last x (λ e. c .if1 .left (c .before .byte-at .ensures .0 ∙ e))))
+
+factor-part : {M : Type 1} (t : ℕ) → factor-lts.Closed (atom-below t, atom.Post, stars-reads.Asked, stars-reads.Learnt) (factor-at t) factor.Post M
+factor-part t = factor-lts.spec (atom-below t, atom.Post, stars-reads.Asked, stars-reads.Learnt) (factor-at t)
+    factor.Post
+    (λ c κs. (omega arith, (ready-atom (c .before .before .before .before .before .pre .1 .0), search needs)))
+    (λ c κs. factor-fit (c .before .before .before .before .before .before .before .before .before .before .before .pre .1 .0) (c .before .before .before .before .before .atom .ensures) (search needs))
+    (λ c. search needs)
+    (λ c. search needs)
+    (λ c. factor-found (c .before .before .before .before .before .before .before .before .before .before .before .before .before .before .pre .1 .0) (c .before .before .before .before .before .before .before .before .atom .ensures) (c .before .before .stars .ensures))
+
+pub +atom+branch+expr+factor-spec : {M : Type 1} → statement M
++atom+branch+expr+factor-spec = close μ-atom μ-branch μ-expr μ-factor atom-part branch-part expr-part factor-part

@@ -1,0 +1,77 @@
+// Four readers that call each other while the remaining bytes fall. Each takes what the text has at a place, and answers with its part; it requires that there is
+// something to read, so it never refuses. A judged text has at most 32 nested parentheses: at most 33 calls of each reader are open at a time.
+ghost use Rattle.scope.specs.Grammar.{atoms, factors, branches, exprs};
+ghost use Rattle.pattern.specs.Answer.{Fit, Ready, Rooms, Starred, Answer};
+use crate::leaves::leaf;
+use crate::shapes::Part;
+use crate::shapes::beside;
+use crate::shapes::either;
+use crate::shapes::link;
+use crate::shapes::moved;
+use crate::text::BAR;
+use crate::text::OPEN;
+use crate::text::STAR;
+use crate::text::byte_at;
+use crate::text::goes_on;
+
+// The part with the stars after it.
+fn stars(text: &[u8], part: Part, words: &mut [u64]) -> Part
+    requires { ⌜ Fit (now text) (now words) part ⌝ }
+    ensures { λ r. ⌜ Starred (now (text .entry)) (now (words .entry)) part (now (words .exit)) r ⌝ }
+{
+    let mut all = part;
+    while byte_at(text, all.next) == STAR {
+        link(words, all.count, all.last, all.first);
+        all = moved(all, all.next + 1, true);
+    }
+    all
+}
+
+// An atom: an expression in parentheses, or a leaf.
+fn atom(text: &[u8], at: usize, count: usize, bytes: &mut [u8], words: &mut [u64]) -> Part
+    requires { ⌜ Ready atoms count (now text) at × Rooms (now bytes) (now words) ⌝ }
+    ensures { λ r. ⌜ Answer atoms (now (text .entry)) at count (now (bytes .entry)) (now (bytes .exit)) (now (words .entry)) (now (words .exit)) r ⌝ }
+{
+    if byte_at(text, at) == OPEN {
+        let inner = expr(text, at + 1, count, bytes, words);
+        moved(inner, inner.next + 1, inner.null)
+    } else {
+        leaf(text, at, count, bytes)
+    }
+}
+
+// A factor: an atom and its stars.
+fn factor(text: &[u8], at: usize, count: usize, bytes: &mut [u8], words: &mut [u64]) -> Part
+    requires { ⌜ Ready factors count (now text) at × Rooms (now bytes) (now words) ⌝ }
+    ensures { λ r. ⌜ Answer factors (now (text .entry)) at count (now (bytes .entry)) (now (bytes .exit)) (now (words .entry)) (now (words .exit)) r ⌝ }
+{
+    let part = atom(text, at, count, bytes, words);
+    stars(text, part, words)
+}
+
+// A branch: factors side by side.
+fn branch(text: &[u8], at: usize, count: usize, bytes: &mut [u8], words: &mut [u64]) -> Part
+    requires { ⌜ Ready branches count (now text) at × Rooms (now bytes) (now words) ⌝ }
+    ensures { λ r. ⌜ Answer branches (now (text .entry)) at count (now (bytes .entry)) (now (bytes .exit)) (now (words .entry)) (now (words .exit)) r ⌝ }
+{
+    let mut all = factor(text, at, count, bytes, words);
+    while goes_on(byte_at(text, all.next)) {
+        let next = factor(text, all.next, all.count, bytes, words);
+        link(words, all.count, all.last, next.first);
+        all = beside(all, next);
+    }
+    all
+}
+
+// An expression: branches joined by `|`.
+pub fn expr(text: &[u8], at: usize, count: usize, bytes: &mut [u8], words: &mut [u64]) -> Part
+    requires { ⌜ Ready exprs count (now text) at × Rooms (now bytes) (now words) ⌝ }
+    ensures { λ r. ⌜ Answer exprs (now (text .entry)) at count (now (bytes .entry)) (now (bytes .exit)) (now (words .entry)) (now (words .exit)) r ⌝ }
+{
+    let mut all = branch(text, at, count, bytes, words);
+    while byte_at(text, all.next) == BAR {
+        let next = branch(text, all.next + 1, all.count, bytes, words);
+        all = either(all, next);
+    }
+    all
+}

@@ -1,0 +1,154 @@
+// Single bytes of a pattern's text.
+ghost use mathlib.Core.Path.{_≡_};
+ghost use mathlib.Core.Bool.{not};
+ghost use Prim.Native.Nat.{_<_, _≤_};
+ghost use lib.ListN.{length};
+ghost use Rattle.scope.specs.Bytes.{byte};
+ghost use Rattle.scope.specs.Grammar.{hex, Escape, ClassByte};
+ghost use Rattle.scope.specs.Limits.{byteValues, patternLimit};
+ghost use Rattle.pattern.specs.Parts.{Backslash, Some};
+ghost use Rattle.pattern.specs.Tails.{stops};
+
+// The bytes that the grammar names, and what is read past the end of the text.
+pub const OPEN: usize = b'(' as usize;
+
+pub const CLOSE: usize = b')' as usize;
+
+pub const BAR: usize = b'|' as usize;
+
+pub const STAR: usize = b'*' as usize;
+
+pub const DOT: usize = b'.' as usize;
+
+pub const BACKSLASH: usize = b'\\' as usize;
+
+pub const CLASS_OPEN: usize = b'[' as usize;
+
+pub const CLASS_CLOSE: usize = b']' as usize;
+
+pub const DASH: usize = b'-' as usize;
+
+pub const CODE: usize = b'x' as usize;
+
+pub const EMPTY: usize = b'e' as usize;
+
+pub const NOTHING: usize = b'0' as usize;
+
+pub const END: usize = 256;
+
+// A byte that was read, and the place after it.
+pub struct Taken {
+    pub next: usize,
+    pub byte: u8,
+}
+
+// The byte at a place of the text, 256 past its end.
+pub fn byte_at(text: &[u8], at: usize) -> usize
+    ensures { λ r. ⌜ (r ≡ byte (now (text .entry)) at) × (r ≤ byteValues) ⌝ }
+{
+    if at < text.len() {
+        text[at] as usize
+    } else {
+        END
+    }
+}
+
+// Whether a branch goes on with b.
+pub fn goes_on(b: usize) -> bool
+    ensures { λ r. ⌜ r ≡ not (stops b) ⌝ }
+{
+    if b == CLOSE {
+        return false;
+    }
+    if b == END {
+        return false;
+    }
+    b != BAR
+}
+
+// The byte after a backslash at a place; 256 if there is no backslash.
+pub fn escaped(text: &[u8], at: usize) -> usize
+    requires { ⌜ (at < length (now text)) × (length (now text) ≤ patternLimit) ⌝ }
+    ensures { λ r. ⌜ Backslash (now (text .entry)) at r ⌝ }
+{
+    if byte_at(text, at) == BACKSLASH {
+        byte_at(text, at + 1)
+    } else {
+        END
+    }
+}
+
+// Where the hex digits begin and end.
+const DIGITS: usize = b'0' as usize;
+
+const DIGITS_END: usize = b'9' as usize + 1;
+
+const CAPITALS: usize = b'A' as usize;
+
+const CAPITALS_END: usize = b'F' as usize + 1;
+
+const SMALLS: usize = b'a' as usize;
+
+const SMALLS_END: usize = b'f' as usize + 1;
+
+// The value of a hex digit, 16 if b is none.
+fn digit(b: usize) -> usize
+    ensures { λ r. ⌜ (r ≡ hex b) × (r ≤ 16) ⌝ }
+{
+    if b < DIGITS {
+        return 16;
+    }
+    if b < DIGITS_END {
+        return b - DIGITS;
+    }
+    if b < CAPITALS {
+        return 16;
+    }
+    if b < CAPITALS_END {
+        return b - CAPITALS + 10;
+    }
+    if b < SMALLS {
+        return 16;
+    }
+    if b < SMALLS_END {
+        return b - SMALLS + 10;
+    }
+    16
+}
+
+// The byte that an escape is.
+pub fn escape(text: &[u8], at: usize) -> Taken
+    requires { ⌜ Some Escape (now text) at ⌝ }
+    ensures { λ r. ⌜ Escape (now (text .entry)) at (r .next) (r .byte) ⌝ }
+{
+    let b = byte_at(text, at + 1);
+    if b == CODE {
+        let high = digit(byte_at(text, at + 2));
+        let low = digit(byte_at(text, at + 3));
+        Taken {
+            next: at + 4,
+            byte: (high * 16 + low) as u8,
+        }
+    } else {
+        Taken {
+            next: at + 2,
+            byte: b as u8,
+        }
+    }
+}
+
+// A byte in a class.
+pub fn class_byte(text: &[u8], at: usize) -> Taken
+    requires { ⌜ Some ClassByte (now text) at ⌝ }
+    ensures { λ r. ⌜ ClassByte (now (text .entry)) at (r .next) (r .byte) ⌝ }
+{
+    let b = byte_at(text, at);
+    if b == BACKSLASH {
+        escape(text, at)
+    } else {
+        Taken {
+            next: at + 1,
+            byte: b as u8,
+        }
+    }
+}

@@ -1,0 +1,2 @@
+-- The laws of the sets.
+pub mod Words
