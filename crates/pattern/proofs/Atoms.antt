@@ -1,6 +1,7 @@
 -- Atoms: the first byte, and the one after a backslash, tell what an atom is.
 --   answer: what is said of everything that can be read, with one thing that can be
---   leaf-empty, leaf-nothing, leaf-single, leaf-position: the atoms outside of parentheses
+--   leaf-empty, leaf-nothing: an atom without a position was read
+--   leaf-some, leaf-room, leaf-single: one with a position can be read; there is room for it; it was read
 --   ready-inner, answer-inner: an expression in parentheses
 use Prim.Native.Nat.{ℕ, _+_, _<_}
 use mathlib.Core.Path.{_≡_, refl, sym, ap, _∙_}
@@ -23,6 +24,7 @@ use Rattle.pattern.proofs.Classes.{some}
 use Rattle.pattern.proofs.Rights.{right-alone, right-empty, right-nothing, right-moved}
 use Rattle.pattern.proofs.Tails.{ready}
 
+-- one thing that can be read tells how far every one goes
 pub answer : {l : Level} {s : List ℕ} {i k : ℕ} {y y′ w w′ : List ℕ} {g : Part} → Ready l k s i → ((j : ℕ) (t : Tree) → Whole l s i j t → Found t k y y′ w w′ g j) → Answer l s i k y y′ w w′ g
 answer p f =
     let e = f (p .end) (p .tree) (p .whole) .next in

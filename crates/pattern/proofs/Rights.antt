@@ -1,6 +1,6 @@
 -- A part is right for its expression: a law for each rule of the sets. The equations of the code are those of the definitions; unions are regrouped.
 --   right-within: no position of a part is above its count
---   right-alone, right-blank, right-moved, right-star, right-beside, right-either: the part of each kind of expression
+--   right-alone, right-empty, right-nothing, right-moved, right-star, right-beside, right-either: the part of each kind of expression
 use Prim.Native.Nat.{ℕ, _+_, _^_, _<_}
 use mathlib.Core.Path.{_≡_, refl, sym, ap, ap₂, _∙_}
 use mathlib.Core.Bool.{Bool, true, false, _&&_, _||_, and-comm, or-false, or-assoc}

@@ -1,0 +1,4 @@
+-- The laws behind comparing.
+pub mod Halving
+pub mod Spelling
+pub mod Results

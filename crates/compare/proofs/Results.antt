@@ -1,0 +1,61 @@
+-- Results. The starts lie in one part when nothing splits any more: the machines are the same. Else the string room holds the string.
+--   answer-same, answer-apart, answer-spells, answer-fits, answer-separated: the starts lie in one part; else the string is as long as their distance, and is written
+--   compares-within: the string is no longer than the rounds, and these are at most s + t - 2
+use Prim.Native.Nat.{ℕ, _+_, _-_, _≤_, _<_}
+use mathlib.Core.Path.{refl}
+use mathlib.Core.List.{List}
+use native.Mathlib.Omega.{arith}
+use Rattle.scope.specs.Answers.{SAME, SEPARATED}
+use Rattle.scope.specs.Limits.{wordBytes}
+use Rattle.scope.specs.Room.{statesOf, machine, Sound}
+use Rattle.scope.specs.Compare.{Compares, no-room, no-form, same, separated}
+use Rattle.scope.proofs.Run.{sound-closed}
+use Rattle.scope.proofs.Aside.{rounds-two}
+use Rattle.scope.proofs.Separate.{equal-by, word-within}
+use Rattle.parts.specs.Side.{both}
+use Rattle.parts.specs.Parts.{Alike}
+use Rattle.parts.specs.Refined.{Refined}
+use Rattle.parts.proofs.Refined.{refined-together, both-few}
+use Rattle.compare.specs.Word.{Apart, Between, Spells, Holds, Answers}
+
+module _ {a b part parent born : List ℕ} {rounds : ℕ} (s : Sound a) (t : Sound b) (d : Refined (both a b) part parent born rounds) where
+  first : 0 < statesOf a + statesOf b
+  first = omega (arith, s .some-state)
+
+  second : statesOf a < statesOf a + statesOf b
+  second = omega (arith, t .some-state)
+
+  -- the starts lie in one part
+  pub answer-same : {word : List ℕ} → Alike part 0 (statesOf a) → Answers a b word word SAME 0 rounds
+  answer-same e bytes bytes′ words words′ lent clear = same lent s t
+      (equal-by (machine a) (machine b) (sound-closed a s) (sound-closed b t) rounds (d .last)
+      (refined-together (both a b) part parent born rounds d 0 (statesOf a) first second .0 e))
+      (d .last) refl clear
+
+  -- they do not: their distance can be found
+  pub answer-apart : (Alike part 0 (statesOf a) → ⊥) → Apart part parent born 0 (statesOf a) rounds
+  answer-apart n = record { machine = both a b; refined = d; few = omega (arith, s .few-states, t .few-states); left = first; right = second; two = n }
+
+  -- then the string can be spelled
+  pub answer-spells : {n : ℕ} → Between part parent born 0 (statesOf a) rounds n n → Spells a b part parent born n
+  answer-spells e = record { left = s; right = t; rounds = rounds; refined = d; within = e .within; parted = e .parted (both a b) d first second }
+
+  -- and fits
+  pub answer-fits : {n : ℕ} → Between part parent born 0 (statesOf a) rounds n n → n ≤ wordBytes
+  answer-fits e = omega (arith, e .within, both-few a b part parent born rounds s t d, s .few-states, t .few-states)
+
+  -- it is written
+  pub answer-separated : {word word′ : List ℕ} {n : ℕ} → Holds a b word word′ n → Answers a b word word′ SEPARATED n rounds
+  answer-separated h bytes bytes′ words words′ lent clear = separated lent s t (h .separation) (h .long) (d .last) (h .written) clear
+
+-- the string is no longer than the rounds, and these are at most s + t - 2
+pub compares-within : {left right word word′ bytes bytes′ words words′ : List ℕ} {i n r : ℕ} → Compares left right word word′ bytes bytes′ words words′ i n r
+    → (n ≤ r) × (r ≤ statesOf left + statesOf right - 2)
+compares-within (no-room h k t) = omega arith
+compares-within (no-form l f k t) = omega arith
+compares-within {left} {right} {r = r} (same l s t e z k c) = omega (arith, rounds-two (machine left) (machine right) (sound-closed left s) (sound-closed right t) r z)
+compares-within {left} {right} {r = r} (separated {w = w} l s t e n z k c) = omega (
+  arith,
+  rounds-two (machine left) (machine right) (sound-closed left s) (sound-closed right t) r z,
+  word-within (machine left) (machine right) (sound-closed left s) (sound-closed right t) r w z e,
+)

@@ -1,0 +1,142 @@
+-- The bytes before `at` are written, and the kinds before i lead the two states that they lead to into one part.
+use Prim.Native.Nat.{_+_, _-_}
+use native.Mathlib.Omega.{arith}
+use borrow.Author.Count.{below-none}
+use borrow.Author.Needs.{needs}
+use Rattle.compare.proofs.Spelling.{Writing, Tried, climb-ready, untried, tried-more, writing-none, writing-more, writing-done}
+use Rattle.compare.proofs.spell.Statement.{statement}
+use Rattle.compare.proofs.spell.Tie as tie
+
+abbrev Inv-loop : tie.InvT-loop
+Inv-loop left right part parent born long word least p q at i₀ y₀ z₀ i y z = Tried left right least (long - (at + 1)) p q i
+
+abbrev μ-loop : tie.MeasureT-loop
+μ-loop left right part parent born long word least p q at i₀ y₀ z₀ i y z = 256 - i
+
+abbrev Inv-walk : tie.InvT-walk
+Inv-walk left right part parent born long word₀ least p₀ q₀ at₀ word p q at = Writing left right word₀ word long p q at
+
+abbrev μ-walk : tie.MeasureT-walk
+μ-walk left right part parent born long word₀ least p₀ q₀ at₀ word p q at = long - at
+
+kinds-requires : tie.Need-kinds-requires Inv-loop μ-loop Inv-walk μ-walk
+kinds-requires c κs =
+    let s = c .before .before .before .pre .0 in
+    (s .left, s .right)
+
+shared-slice-read-q : tie.Need-shared-slice-read-q Inv-loop μ-loop Inv-walk μ-walk
+shared-slice-read-q c = search needs
+
+cast-q : tie.Need-cast-q Inv-loop μ-loop Inv-walk μ-walk
+cast-q c = search needs
+
+walk-holds : tie.Need-walk-holds Inv-loop μ-loop Inv-walk μ-walk
+walk-holds c = writing-none (c .before .before .before .before .before .before .pre .0) _
+
+loop-holds : tie.Need-loop-holds Inv-loop μ-loop Inv-walk μ-walk
+loop-holds c = below-none _
+
+array-read-x : tie.Need-array-read-x Inv-loop μ-loop Inv-walk μ-walk
+array-read-x c =
+    let w = c .before .before in
+    let k = w .before .before .before in
+    let s = k .before .before .before .before .pre .0 in
+    omega (arith, untried s (k .kinds .ensures) (w .walk .inv) (c .loop-test .left) (c .before .loop .i) (c .before .loop .inv), k .kinds .ensures .few)
+
+step-requires : tie.Need-step-requires Inv-loop μ-loop Inv-walk μ-walk
+step-requires c κs =
+    let s = c .before .before .before .before .before .before .before .before .before .pre .0 in
+    ((s .left, s .right), c .before .before .walk .inv .left)
+
+step-requires-2 : tie.Need-step-requires-2 Inv-loop μ-loop Inv-walk μ-walk
+step-requires-2 c κs =
+    let s = c .before .before .before .before .before .before .before .before .before .before .pre .0 in
+    ((s .left, s .right), c .before .before .before .walk .inv .right)
+
+add-r : tie.Need-add-r Inv-loop μ-loop Inv-walk μ-walk
+add-r c = omega (arith, c .before .before .before .before .walk .inv .within)
+
+sub-r : tie.Need-sub-r Inv-loop μ-loop Inv-walk μ-walk
+sub-r c = omega (arith, c .before .before .before .before .walk .inv .within, c .before .before .loop-test .left)
+
+climb-requires : tie.Need-climb-requires Inv-loop μ-loop Inv-walk μ-walk
+climb-requires c κs = climb-ready (c .before .before .before .before .before .before .before .before .before .before .before .pre .0) _ _ (c .before .step .ensures .1) (omega arith)
+
+climb-requires-2 : tie.Need-climb-requires-2 Inv-loop μ-loop Inv-walk μ-walk
+climb-requires-2 c κs = climb-ready (c .before .before .before .before .before .before .before .before .before .before .before .before .pre .0) _ _ (c .before .step2 .ensures .1) (omega arith)
+
+add-i : tie.Need-add-i Inv-loop μ-loop Inv-walk μ-walk
+add-i c = omega (arith, array-read-x (c .before .before .before .before .before))
+
+loop-less : tie.Need-loop-less Inv-loop μ-loop Inv-walk μ-walk
+loop-less c = omega (arith, array-read-x (c .before .before .before .before .before))
+
+loop-again : tie.Need-loop-again Inv-loop μ-loop Inv-walk μ-walk
+loop-again c =
+    let t = c .before .before .before .before .before in
+    let w = t .before .before in
+    let k = w .before .before .before in
+    let s = k .before .before .before .before .pre in
+    tried-more (s .0) (k .kinds .ensures) (w .walk .inv) (t .loop-test .left) (t .before .loop .i) (t .before .loop .inv)
+    (c .before .before .before .before .step .ensures) (c .before .before .before .step2 .ensures) (c .before .before .climb .ensures) (c .before .climb2 .ensures) (c .if1 .left)
+
+slice-write-word : tie.Need-slice-write-word Inv-loop μ-loop Inv-walk μ-walk
+slice-write-word c =
+    let t = c .before .before .before .before .before in
+    let w = t .before .before in
+    let s = w .before .before .before .before .before .before .before .pre in
+    omega (arith, w .walk .inv .within, w .walk .inv .kept .size, t .loop-test .left, s .1)
+
+add-at : tie.Need-add-at Inv-loop μ-loop Inv-walk μ-walk
+add-at c = omega (arith, c .before .before .before .before .before .before .before .walk .inv .within)
+
+walk-less : tie.Need-walk-less Inv-loop μ-loop Inv-walk μ-walk
+walk-less c =
+    let t = c .before .before .before .before .before in
+    omega (arith, t .before .before .walk .inv .within, t .loop-test .left)
+
+walk-again : tie.Need-walk-again Inv-loop μ-loop Inv-walk μ-walk
+walk-again c =
+    let t = c .before .before .before .before .before in
+    let w = t .before .before in
+    let k = w .before .before .before in
+    let s = k .before .before .before .before .pre in
+    writing-more (s .0) (k .kinds .ensures) (w .walk .inv) (t .loop-test .left) (t .before .loop .i) (t .before .loop .inv)
+    (c .before .before .before .before .step .ensures) (c .before .before .before .step2 .ensures) (c .before .before .climb .ensures) (c .before .climb2 .ensures)
+    (omega (arith, w .walk .inv .within, t .loop-test .left, s .1)) (c .if1 .taken)
+
+same-length : tie.Need-same-length Inv-loop μ-loop Inv-walk μ-walk
+same-length c = c .before .before .walk .inv .kept .size
+
+returns : tie.Need-returns Inv-loop μ-loop Inv-walk μ-walk
+returns c = writing-done (c .before .before .before .before .before .before .before .before .before .pre .0) (c .loop-test .taken) (c .before .before .walk .inv)
+
+pub spell-spec : {M : Type 1} → statement M
+spell-spec =
+    tie.close
+    (tie.spec
+    Inv-loop
+    μ-loop
+    Inv-walk
+    μ-walk
+    kinds-requires
+    shared-slice-read-q
+    cast-q
+    walk-holds
+    loop-holds
+    array-read-x
+    step-requires
+    step-requires-2
+    add-r
+    sub-r
+    climb-requires
+    climb-requires-2
+    add-i
+    loop-less
+    loop-again
+    slice-write-word
+    add-at
+    walk-less
+    walk-again
+    same-length
+    returns)

@@ -1,0 +1,2 @@
+-- What the contracts of comparing cite.
+pub mod Word

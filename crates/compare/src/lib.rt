@@ -1,0 +1,143 @@
+// Comparing two machine rooms.
+//
+// The states of both machines are refined together until nothing splits. The machines are the same exactly if their two starts then lie in one part.
+// Else there is a first round after which the starts are not together; its number is the length of the shortest strings that tell them apart. Parts only
+// get finer with each round, so it is found by halving, where each step climbs from both starts. Of these strings the first is spelled byte by byte: two
+// states that r + 1 bytes tell apart, and no fewer, are led by some byte to two states that r bytes tell apart, and the first such byte is the next of the
+// string. A byte leads where the least byte of its kind does, so only these are tried.
+use scope::Compared;
+use scope::Machine;
+ghost use Prim.Native.Nat.{_≤_};
+ghost use lib.ListN.{length};
+ghost use Rattle.scope.specs.Answers.{comparedNumber, comparedLength, comparedRounds};
+ghost use Rattle.scope.specs.Compare.{CompareLent, Compares};
+ghost use Rattle.scope.specs.Limits.{wordBytes};
+ghost use Rattle.scope.specs.Room.{Sound};
+ghost use Rattle.slices.specs.Parts.{Decides};
+ghost use Rattle.compare.specs.Word.{Apart, Between, Spells, Holds, Answers};
+
+// Whether the two rooms, the string room and the scratch are long enough.
+fn is_lent(left: &[u8], right: &[u8], word: &[u8], bytes: &[u8], words: &[u64]) -> bool
+    ensures { λ r. ⌜ Decides r (CompareLent (now (left .entry)) (now (right .entry)) (now (word .entry)) (now (bytes .entry)) (now (words .entry))) ⌝ }
+{
+    if left.len() < Machine::ROOM {
+        return false;
+    }
+    if right.len() < Machine::ROOM {
+        return false;
+    }
+    if word.len() < Machine::WORD {
+        return false;
+    }
+    slices::is_scratch(bytes, words)
+}
+
+// The first round after which p and q, which lie in two parts, are not together: the length of the shortest string that tells them apart.
+fn distance(
+    part: &[u16; 256],
+    parent: &[u16; 256],
+    born: &[u16; 256],
+    p: usize,
+    q: usize,
+    rounds: usize,
+) -> usize
+    requires { ⌜ Apart (now part) (now parent) (now born) p q rounds ⌝ }
+    ensures { λ d. ⌜ Between (now (part .entry)) (now (parent .entry)) (now (born .entry)) p q rounds d d ⌝ }
+{
+    let mut low: usize = 0;
+    let mut high = rounds;
+    while low < high {
+        let middle = (low + high) / 2;
+        if parts::climb(part, parent, born, p, middle)
+            == parts::climb(part, parent, born, q, middle)
+        {
+            low = middle + 1;
+        } else {
+            high = middle;
+        }
+    }
+    low
+}
+
+// Writes the first of the shortest strings that tell the two starts apart; `long` is their length.
+fn spell(
+    left: &[u8],
+    right: &[u8],
+    part: &[u16; 256],
+    parent: &[u16; 256],
+    born: &[u16; 256],
+    long: usize,
+    word: &mut [u8],
+)
+    requires { ⌜ Spells (now left) (now right) (now part) (now parent) (now born) long ⌝ }
+    requires { ⌜ long ≤ length (now word) ⌝ }
+    ensures { λ _. ⌜ Holds (now (left .entry)) (now (right .entry)) (now (word .entry)) (now (word .exit)) long ⌝ }
+{
+    let kinds = parts::kinds(left, right);
+    let least = kinds.least;
+    let mut p: usize = 0;
+    let mut q = left[0] as usize;
+    let mut at: usize = 0;
+    'walk: loop {
+        let mut i: usize = 0;
+        let mut y = p;
+        let mut z = q;
+        let byte = loop {
+            if at == long {
+                break 'walk;
+            }
+            let x = least[i];
+            y = parts::step(left, right, p, x);
+            z = parts::step(left, right, q, x);
+            let r = long - (at + 1);
+            if parts::climb(part, parent, born, y, r) != parts::climb(part, parent, born, z, r) {
+                break x;
+            }
+            i += 1;
+        };
+        word[at] = byte;
+        p = y;
+        q = z;
+        at += 1;
+    }
+}
+
+// The answer for two sound rooms.
+fn answer(left: &[u8], right: &[u8], word: &mut [u8]) -> Compared
+    requires { ⌜ Sound (now left) × Sound (now right) ⌝ }
+    requires { ⌜ wordBytes ≤ length (now word) ⌝ }
+    ensures { λ r. ⌜ Answers (now (left .entry)) (now (right .entry)) (now (word .entry)) (now (word .exit)) (comparedNumber r) (comparedLength r) (comparedRounds r) ⌝ }
+{
+    let s = left[0] as usize;
+    let refined = parts::refine(left, right, s + right[0] as usize);
+    let part = refined.part;
+    let rounds = refined.rounds;
+    if part[0] == part[s] {
+        return Compared::Same(rounds);
+    }
+    let parent = refined.parent;
+    let born = refined.born;
+    let long = distance(&part, &parent, &born, 0, s, rounds);
+    spell(left, right, &part, &parent, &born, long, word);
+    Compared::Separated(long, rounds)
+}
+
+// Compares two rooms: Same, or Separated, and then the string room begins with the string that tells the machines apart.
+pub fn compare(
+    left: &[u8],
+    right: &[u8],
+    word: &mut [u8],
+    bytes: &mut [u8],
+    words: &mut [u64],
+) -> Compared
+    ensures { λ r. ⌜ Compares (now (left .entry)) (now (right .entry)) (now (word .entry)) (now (word .exit)) (now (bytes .entry)) (now (bytes .exit)) (now (words .entry)) (now (words .exit)) (comparedNumber r) (comparedLength r) (comparedRounds r) ⌝ }
+{
+    if !is_lent(left, right, word, bytes, words) {
+        return Compared::Room;
+    }
+    slices::clear(bytes, words);
+    if !room::is_sound(left) || !room::is_sound(right) {
+        return Compared::Form;
+    }
+    answer(left, right, word)
+}

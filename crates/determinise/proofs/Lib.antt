@@ -1,0 +1,12 @@
+-- The laws that the functions' proofs cite, one file a notion.
+pub mod Count
+pub mod Classes
+pub mod Unions
+pub mod Masking
+pub mod Kept
+pub mod Seats
+pub mod Heads
+pub mod Rows
+pub mod Filled
+pub mod Images
+pub mod Givens

@@ -1,0 +1,145 @@
+-- Unions of sets, one position after the other. A word of a set is read by its lowest bit: the bits that a shift passes over are not set, and add nothing.
+--   joined-none, joined-more, joined-with, joined-without: a union over no position, and over one more, that is in or not
+--   joined-skip, joined-same: positions that add nothing; positions that add the same
+--   Passing: the loop over a word: the bits below `at` are passed, and joined to r
+--   passing-none, passing-in, passing-more, passing-end: its turns
+--   word-bits: the bits of a word of a set are bits of the set
+use Prim.Native.Nat.{ℕ, zero, suc, _+_, _-_, _*_, _/_, _%_, _^_, _≤_, _<_}
+use mathlib.Core.Path.{_≡_, refl, sym, ap, ap₂, _∙_}
+use mathlib.Core.Bool.{Bool, true, false, false≢true}
+use mathlib.Core.List.{List}
+use mathlib.Core.Logic.{inl, inr}
+use native.Mathlib.Nat.{add-zero, add-suc, div-one, div-eq-of-lt, pow-suc, add-assoc, lt-of-lt-of-le}
+use native.Mathlib.Numerals.{add-one}
+use native.Mathlib.Omega.{arith}
+use lib.Bits.{bitOr, or-zero-r}
+use lib.Count.{trailingZeros}
+use lib.Dec.{eqb}
+use lib.ListN.{getD}
+use lib.Pow.{pow-mono, shr-shr, shr-le}
+use Rattle.scope.specs.Bits.{has, given, joined}
+use Rattle.scope.proofs.Bits.{digit, has-half, has-zero}
+use Rattle.scope.proofs.Tests.{split}
+use Rattle.sets.specs.Value.{setBits, setAt, value}
+use Rattle.sets.proofs.Words.{has-at}
+use Rattle.determinise.specs.Reach.{followOf, WordAnswer}
+
+-- no position
+pub joined-none : (f : ℕ → ℕ) → joined f 0 ≡ 0
+unfolding joined
+joined-none f = refl
+
+-- one position more
+pub joined-more : (f : ℕ → ℕ) (n : ℕ) → joined f (n + 1) ≡ bitOr (joined f n) (f n)
+unfolding joined
+joined-more f n = rw (add-one n)
+
+-- a position that is in
+pub joined-with : (c : ℕ → Bool) (f : ℕ → ℕ) (n : ℕ) → c n ≡ true
+    → joined (λ p. given (c p) (f p)) (n + 1) ≡ bitOr (joined (λ p. given (c p) (f p)) n) (f n)
+joined-with c f n e = joined-more (λ p. given (c p) (f p)) n ∙ rw e
+
+-- a position that is not
+pub joined-without : (c : ℕ → Bool) (f : ℕ → ℕ) (n : ℕ) → c n ≡ false
+    → joined (λ p. given (c p) (f p)) (n + 1) ≡ joined (λ p. given (c p) (f p)) n
+joined-without c f n e = joined-more (λ p. given (c p) (f p)) n ∙ rw e (or-zero-r _)
+
+-- positions that add nothing
+pub joined-skip : (f : ℕ → ℕ) (n z : ℕ) → ((j : ℕ) → j < z → f (n + j) ≡ 0) → joined f (n + z) ≡ joined f n
+unfolding joined
+joined-skip f n zero e = rw (add-zero n)
+joined-skip f n (suc z) e = rw (add-suc n z, e z (omega arith), or-zero-r) (joined-skip f n z (λ j h. e j (omega arith)))
+
+-- positions that add the same
+pub joined-same : (f g : ℕ → ℕ) (n : ℕ) → ((p : ℕ) → p < n → f p ≡ g p) → joined f n ≡ joined g n
+unfolding joined
+joined-same f g zero e = refl
+joined-same f g (suc n) e = rw (joined-same f g n (λ p h. e p (omega arith)), e n (omega arith))
+
+-- ---- the lowest bit
+
+low : (n d : ℕ) → n % 2 ≡ d → has n 0 ≡ eqb d 1
+low n d e = rw (div-one, e)
+
+-- below the lowest bit no bit is set
+trailing-none : (k n j : ℕ) → j < trailingZeros k n → has n j ≡ false
+unfolding trailingZeros
+trailing-none zero n j h = absurd (omega arith)
+trailing-none (suc k) n zero h = elim (digit n) [ inl e ↦ low n 0 e | inr e ↦ absurd (omega (arith, rw e at h)) ]
+trailing-none (suc k) n (suc j) h = elim (digit n) [
+  | inl e ↦ has-half n j ∙ trailing-none k (n / 2) j (omega (arith, rw e at h))
+  | inr e ↦ absurd (omega (arith, rw e at h))
+]
+
+-- where some bit is set, so is the lowest
+trailing-one : (k n : ℕ) → 0 < n → n < 2 ^ k → has n (trailingZeros k n) ≡ true
+unfolding trailingZeros
+trailing-one zero n h l = absurd (omega arith)
+trailing-one (suc k) n h l = elim (digit n) [
+  | inl e ↦ (rw e (has-half n (trailingZeros k (n / 2)) ∙ trailing-one k (n / 2) (omega arith) (omega (arith, pow-suc 2 k))))
+  | inr e ↦ (rw e (low n 1 e))
+]
+
+-- a bit stands below the length
+has-small : (n j k : ℕ) → has n j ≡ true → n < 2 ^ k → j < k
+has-small n j k t l = elim (split j k) [
+  | inl h ↦ h
+  | inr h ↦ absurd (false≢true (sym (ap (λ (m : ℕ). eqb (m % 2) 1) (div-eq-of-lt (lt-of-lt-of-le l (pow-mono h)))) ∙ t))
+]
+
+-- ---- the loop over a word
+
+pub record Passing (m : List ℕ) (w x u rest r at : ℕ) : Type 0 where
+  pub within : at ≤ 64
+  pub left : rest ≡ x / 2 ^ at
+  pub union : (s : ℕ) → ((j : ℕ) → j < 64 → has s (64 * w + j) ≡ has x j) → u ≡ joined (followOf m s) (64 * w) → r ≡ joined (followOf m s) (64 * w + at)
+
+-- nothing is passed
+pub passing-none : (m : List ℕ) (w x u : ℕ) → Passing m w x u x u 0
+passing-none m w x u = record { within = omega arith; left = sym (div-one x); union = λ s b e. rw (add-zero (64 * w)) e }
+
+module _ {m : List ℕ} {w x u rest r at : ℕ} (p : Passing m w x u rest r at) where
+  -- the bits that are left
+  bit : (j : ℕ) → has rest j ≡ has x (at + j)
+  bit j = rw (p .left) (ap (λ (n : ℕ). eqb (n % 2) 1) (shr-shr x at j))
+
+  -- a bit that is not set adds nothing
+  nothing : (s j : ℕ) → ((j : ℕ) → j < 64 → has s (64 * w + j) ≡ has x j) → at + j < 64 → has rest j ≡ false → followOf m s (64 * w + at + j) ≡ 0
+  nothing s j b h e = rw (add-assoc (64 * w) at j, b (at + j) h, ← bit j, e)
+
+  -- no bit is left
+  pub passing-end : rest ≡ 0 → WordAnswer m w x u r
+  passing-end z s b e =
+      let l : 64 * w + 64 ≡ 64 * w + at + (64 - at) = omega (arith, p .within) in
+      p .union s b e ∙ rw l (sym (joined-skip (followOf m s) (64 * w + at) (64 - at) (λ j h. nothing s j b (omega arith) (rw z (has-zero j)))))
+
+  module _ (x-small : x < 2 ^ 64) (some : rest ≡ 0 → ⊥) where
+    lowest : has x (at + trailingZeros 64 rest) ≡ true
+    lowest = sym (bit (trailingZeros 64 rest)) ∙ trailing-one 64 rest (omega arith) (omega (arith, p .left, shr-le x at))
+
+    -- the lowest bit stands in the word
+    pub passing-in : at + trailingZeros 64 rest < 64
+    passing-in = has-small x (at + trailingZeros 64 rest) 64 lowest x-small
+
+    -- it is passed, and what follows it joined
+    pub passing-more : {r′ y : ℕ} → r′ ≡ bitOr r y → y ≡ setAt m (64 * w + at + trailingZeros 64 rest)
+        → Passing m w x u (rest / 2 ^ trailingZeros 64 rest / 2) r′ (at + trailingZeros 64 rest + 1)
+    passing-more {r′} {y} er ey =
+        let z = trailingZeros 64 rest in
+        record {
+          within = omega (arith, passing-in);
+          left = ap (λ (n : ℕ). n / 2 ^ z / 2) (p .left) ∙ ap (λ (n : ℕ). n / 2) (shr-shr x at z) ∙ shr-shr x (at + z) 1;
+          union = λ s b v.
+              (let l : 64 * w + (at + z + 1) ≡ 64 * w + at + z + 1 = omega arith in
+              let f : has s (64 * w + at + z) ≡ true = rw (add-assoc (64 * w) at z) (b (at + z) passing-in ∙ lowest) in
+              let g : r ≡ joined (followOf m s) (64 * w + at + z) = p .union s b v
+              ∙ sym (joined-skip (followOf m s) (64 * w + at) z (λ j h. nothing s j b (omega (arith, passing-in)) (trailing-none 64 rest j h))) in
+              er ∙ ap₂ bitOr g ey ∙ sym (joined-with (has s) (setAt m) (64 * w + at + z) f) ∙ ap (joined (followOf m s)) (sym l));
+        }
+
+-- the word number w of a set
+pub word-bits : (s : List ℕ) (w : ℕ) → 64 * w + 64 ≤ setBits → (j : ℕ) → j < 64 → has (value s) (64 * w + j) ≡ has (getD s w 0) j
+word-bits s w h j l =
+    let d : (64 * w + j) / 64 ≡ w = omega arith in
+    let r : (64 * w + j) % 64 ≡ j = omega arith in
+    rw (d, r) at (sym (has-at s (64 * w + j) (omega arith)))

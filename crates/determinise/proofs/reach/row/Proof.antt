@@ -1,0 +1,65 @@
+-- The invariant: the first c cells of the row lead to the sets that they should, all of them among the m reached ones (`Filling`).
+use Prim.Native.Nat.{_-_}
+use mathlib.Core.Logic.{⊎-elim}
+use native.Mathlib.Omega.{arith}
+use borrow.Author.Needs.{needs}
+use Rattle.sets.specs.Value.{value}
+use Rattle.determinise.proofs.Rows.{row-fits, Filling, filling-none, filling-full, filling-old, filling-new, filling-end}
+use Rattle.determinise.proofs.reach.row.Statement.{statement}
+use Rattle.determinise.proofs.reach.row.Tie as tie
+
+abbrev Inv-loop : tie.InvT-loop
+Inv-loop image₀ words₀ masks k q n union at m₀ c₀ image words m c = Filling image₀ words₀ masks k q n (value (union .words)) image words m c
+
+abbrev μ-loop : tie.MeasureT-loop
+μ-loop image₀ words₀ masks k q n union at m₀ c₀ image words m c = k - c
+
+mul-at : tie.Need-mul-at Inv-loop μ-loop
+mul-at c = omega (arith, row-fits (c .before .before .before .args .k) (c .before .before .before .args .q) (c .before .before .before .pre .classes) (omega arith))
+
+add-at : tie.Need-add-at Inv-loop μ-loop
+add-at c = omega (arith, row-fits (c .before .before .before .args .k) (c .before .before .before .args .q) (c .before .before .before .pre .classes) (omega arith))
+
+loop-holds : tie.Need-loop-holds Inv-loop μ-loop
+loop-holds c = search (needs, filling-none)
+
+returns : tie.Need-returns Inv-loop μ-loop
+returns c = search (needs, filling-full)
+
+add-image : tie.Need-add-image Inv-loop μ-loop
+add-image c = let a = c .before .before .before .before .before .before .before .before .before .before .before .before .before in omega (arith, row-fits (a .args .k) (a .args .q) (a .pre .classes) (omega arith))
+
+slice-write-image : tie.Need-slice-write-image Inv-loop μ-loop
+slice-write-image c = let a = c .before .before .before .before .before .before .before .before .before .before .before .before .before in omega (arith, row-fits (a .args .k) (a .args .q) (a .pre .classes) (omega arith))
+
+loop-again : tie.Need-loop-again Inv-loop μ-loop
+loop-again c = ⊎-elim (λ v. rw (v .1) (search (needs, filling-new))) (λ v. rw (v .1) (search (needs, filling-old))) (c .if2 .came)
+
+returns-2 : tie.Need-returns-2 Inv-loop μ-loop
+returns-2 c = search (needs, filling-end)
+
+pub row-spec : {M : Type 1} → statement M
+row-spec =
+    tie.close
+    (tie.spec
+    Inv-loop
+    μ-loop
+    mul-at
+    add-at
+    loop-holds
+    (λ c κs. search needs)
+    (λ c κs. search needs)
+    (λ c κs. search needs)
+    (λ c. search needs)
+    (λ c. search needs)
+    returns
+    (λ c. search needs)
+    (λ c. search needs)
+    add-image
+    slice-write-image
+    (λ c. search needs)
+    (λ c. search needs)
+    loop-again
+    (λ c. search needs)
+    (λ c. search needs)
+    returns-2)

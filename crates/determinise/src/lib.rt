@@ -1,0 +1,69 @@
+// From the sets of positions of an expression to a sound room image whose states are the reached sets. One file a pass: `group` gives each byte value its
+// class, `masks` each class its positions, `reach` finds the reached sets row by row, `image` writes the room around them.
+ghost use mathlib.Core.Path.{_≡_};
+ghost use Prim.Native.Nat.{_+_, _*_, _≤_};
+ghost use lib.Bits.{bitOr};
+ghost use Rattle.scope.specs.Bits.{given};
+ghost use Rattle.scope.specs.Buffers.{Scratch};
+ghost use Rattle.scope.specs.Limits.{positionLimit};
+ghost use Rattle.sets.specs.Value.{value};
+ghost use Rattle.determinise.specs.Build.{Builds};
+use scope::Machine;
+use sets::Set;
+
+mod group;
+mod image;
+mod masks;
+mod reach;
+
+// The bytes hold the byte set of each position, then the image.
+pub const BYTE_SET: usize = 32;
+
+pub const IMAGE_AT: usize = Machine::POSITIONS * BYTE_SET;
+
+// The words hold First and the follow set of each position, then the reached sets.
+pub const SETS_AT: usize = Machine::POSITIONS + 1;
+
+// What building answers.
+pub enum Built {
+    Done,
+    Classes,
+    States,
+}
+
+// How many there are, or that there are more than the limit.
+pub enum Counted {
+    Few(usize),
+    Many,
+}
+
+// The positions of Last, and the state 0 if the expression is nullable.
+fn finals(last: Set, null: bool) -> Set
+    ensures { λ r. ⌜ value (r .words) ≡ bitOr (value (last .words)) (given null 1) ⌝ }
+{
+    if null { last.with(0) } else { last }
+}
+
+// Groups the byte values, determinises, and writes a sound room image into the scratch.
+pub fn build(bytes: &mut [u8], words: &mut [u64], count: usize, last: Set, null: bool) -> Built
+    requires { ⌜ (count ≤ positionLimit) × Scratch (now bytes) (now words) ⌝ }
+    ensures { λ r. ⌜ Builds (now (bytes .entry)) (now (words .entry)) count (value (last .words)) null (now (bytes .exit)) (now (words .exit)) r ⌝ }
+{
+    let groups = group::group(bytes, count);
+    let counted = groups.answer;
+    match counted {
+        Counted::Few(k) => {
+            let map = groups.map;
+            let masks = masks::class_masks(bytes, count, map);
+            image::determinise(
+                &mut bytes[IMAGE_AT..],
+                words,
+                &masks,
+                map,
+                k,
+                finals(last, null),
+            )
+        }
+        Counted::Many => Built::Classes,
+    }
+}
