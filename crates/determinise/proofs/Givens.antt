@@ -3,7 +3,7 @@
 --   mask-holders, like-share: the mask of a byte, and when two bytes share a class
 --   few-classes, many-classes: a grouping, or one that is refused, is one of the pattern classes
 --   mapped: the classes of a grouping
---   part-length, put-all, put-tail: a part of the bytes, lent and written
+--   part-all, part-length, put-all, put-tail: a part of the bytes, lent and written
 --   built, built-classes: the answer
 use Prim.Native.Nat.{ℕ, _+_, _-_, _^_, _≤_, _<_}
 use mathlib.Core.Path.{_≡_, sym, ap, subst, _∙_}
@@ -113,7 +113,7 @@ mapped c = record {
 
 -- ---- the part of the bytes from a on, lent, and written to ys
 
-part-all : (a : ℕ) (s : List ℕ) → take (length s - a) (drop a s) ≡ drop a s
+pub part-all : (a : ℕ) (s : List ℕ) → take (length s - a) (drop a s) ≡ drop a s
 part-all a s = take-all (length s - a) (drop a s) (omega (arith, length-drop a s))
 
 -- how long the part is

@@ -1,4 +1,5 @@
 -- The whole text is an expression that ends with the text, and the buffers are empty at first: what came in is all that is there.
+--   places-size: a tree has a place for each position
 --   ready-text: a judged text can be read
 --   reading: what was read of it is what is promised
 use Prim.Native.Nat.{ℕ, _+_, _*_, _/_, _%_}
@@ -28,7 +29,7 @@ use Rattle.pattern.specs.Reading.{Judged, Clear, Reading}
 use Rattle.pattern.proofs.Tails.{ready}
 
 -- a tree has a place for each position
-places-size : (t : Tree) → length (places t) ≡ size (expr t)
+pub places-size : (t : Tree) → length (places t) ≡ size (expr t)
 unfolding places expr
 places-size nothing = refl
 places-size empty = refl

@@ -1,0 +1,75 @@
+// Compiling a pattern: the text is judged, read to its sets of positions, built into a machine in the scratch, and made smallest into the room.
+use determinise::Built;
+use judge::Judged;
+use pattern::Shape;
+use scope::Compiled;
+use scope::Machine;
+ghost use Rattle.scope.specs.Answers.{compiledNumber, compiledPlace};
+ghost use Rattle.scope.specs.Buffers.{Scratch, Lent};
+ghost use Rattle.scope.specs.Compile.{Compiles};
+ghost use Rattle.pattern.specs.Reading.{Judged as Legal};
+ghost use Rattle.compile.specs.Passes.{Reads, Answers};
+
+// How many words the sets of all positions have.
+const WORD_SETS: usize = determinise::SETS_AT * Machine::SET_WORDS;
+
+// Reads a text that was judged legal: its sets come into the scratch, First as what follows the start.
+fn read(text: &[u8], bytes: &mut [u8], words: &mut [u64]) -> Shape
+    requires { ⌜ Legal (now text) × Scratch (now bytes) (now words) ⌝ }
+    ensures { λ r. ⌜ Reads (now (text .entry)) (now (bytes .entry)) (now (bytes .exit)) (now (words .entry)) (now (words .exit)) r ⌝ }
+{
+    slices::fill(bytes, 0, determinise::IMAGE_AT, 0);
+    slices::fill_words(words, 0, WORD_SETS, 0);
+    let shape = pattern::read(text, bytes, words);
+    let first = shape.first;
+    sets::store(words, 0, first);
+    shape
+}
+
+// Builds the machine of a text that was judged legal, and makes it smallest into the room.
+fn build(text: &[u8], room: &mut [u8], bytes: &mut [u8], words: &mut [u64]) -> Compiled
+    requires { ⌜ Legal (now text) × Lent (now room) (now bytes) (now words) ⌝ }
+    ensures { λ r. ⌜ Answers (now (text .entry)) (now (room .entry)) (now (room .exit)) (now (bytes .entry)) (now (bytes .exit)) (now (words .entry)) (now (words .exit)) (compiledNumber r) (compiledPlace r) ⌝ }
+{
+    let shape = read(text, bytes, words);
+    let last = shape.last;
+    let built = determinise::build(bytes, words, shape.size, last, shape.null);
+    match built {
+        Built::Done => {
+            smallest::smallest(&bytes[determinise::IMAGE_AT..], room);
+            Compiled::Done
+        }
+        Built::Classes => Compiled::Classes,
+        Built::States => Compiled::States,
+    }
+}
+
+// Judges the text, and builds its machine if it is legal.
+fn answer(text: &[u8], room: &mut [u8], bytes: &mut [u8], words: &mut [u64]) -> Compiled
+    requires { ⌜ Lent (now room) (now bytes) (now words) ⌝ }
+    ensures { λ r. ⌜ Answers (now (text .entry)) (now (room .entry)) (now (room .exit)) (now (bytes .entry)) (now (bytes .exit)) (now (words .entry)) (now (words .exit)) (compiledNumber r) (compiledPlace r) ⌝ }
+{
+    if text.len() > Machine::PATTERN {
+        return Compiled::Long;
+    }
+    let judged = judge::judge(text);
+    match judged {
+        Judged::Legal => build(text, room, bytes, words),
+        Judged::Syntax(i) => Compiled::Syntax(i),
+        Judged::Range(i) => Compiled::Range(i),
+        Judged::Depth(i) => Compiled::Depth(i),
+        Judged::Positions(i) => Compiled::Positions(i),
+    }
+}
+
+// Compiling: writes the canonical machine of a pattern into a room, or refuses the pattern with its place.
+pub fn compile(text: &[u8], room: &mut [u8], bytes: &mut [u8], words: &mut [u64]) -> Compiled
+    ensures { λ r. ⌜ Compiles (now (text .entry)) (now (room .entry)) (now (room .exit)) (now (bytes .entry)) (now (bytes .exit)) (now (words .entry)) (now (words .exit)) (compiledNumber r) (compiledPlace r) ⌝ }
+{
+    if !slices::is_lent(room, bytes, words) {
+        return Compiled::Room;
+    }
+    let answer = answer(text, room, bytes, words);
+    slices::clear(bytes, words);
+    answer
+}
