@@ -1,6 +1,7 @@
 -- Results. The starts lie in one part when nothing splits any more: the machines are the same. Else the string room holds the string.
 --   answer-same, answer-apart, answer-spells, answer-fits, answer-separated: the starts lie in one part; else the string is as long as their distance, and is written
 --   compares-within: the string is no longer than the rounds, and these are at most s + t - 2
+--   compares-fits: it fits into the string room
 use Prim.Native.Nat.{ℕ, _+_, _-_, _≤_, _<_}
 use mathlib.Core.Path.{refl}
 use mathlib.Core.List.{List}
@@ -59,3 +60,10 @@ compares-within {left} {right} {r = r} (separated {w = w} l s t e n z k c) = ome
   rounds-two (machine left) (machine right) (sound-closed left s) (sound-closed right t) r z,
   word-within (machine left) (machine right) (sound-closed left s) (sound-closed right t) r w z e,
 )
+
+-- it fits into the string room
+pub compares-fits : {left right word word′ bytes bytes′ words words′ : List ℕ} {i n r : ℕ} → Compares left right word word′ bytes bytes′ words words′ i n r → n ≤ wordBytes
+compares-fits (no-room h k t) = omega arith
+compares-fits (no-form l f k t) = omega arith
+compares-fits (same l s t e z k c) = omega arith
+compares-fits (separated l s t e n z k c) = omega (arith, compares-within (separated l s t e n z k c), s .few-states, t .few-states)

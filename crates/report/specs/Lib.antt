@@ -1,0 +1,2 @@
+-- What the report is made of.
+pub mod Report
