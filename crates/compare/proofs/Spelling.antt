@@ -114,7 +114,7 @@ module _ {a b part parent born : List ℕ} {d : ℕ} (s : Spells a b part parent
       lower : (c : ℕ) → c < getD least i 0 → Leads a b (d - (at + 1)) p q c
       lower c l =
           let h : c < byteValues = omega (arith, byte) in
-          by-kind c h (t (getD kind c 0) (kind-before a b kind least count k c h i (untried i t) l))
+          by-kind c h (t (getD kind c 0) (kind-before k c i (untried i t) l))
 
       -- it leads to two: a byte more is written
       pub writing-more : at < length word → (u ≡ v → ⊥) → Writing a b word (set word′ at (getD least i 0)) d y z (at + 1)

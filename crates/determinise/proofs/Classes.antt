@@ -14,13 +14,14 @@ use native.Mathlib.Omega.{arith}
 use native.Mathlib.Decide.{ℕ-discrete}
 use borrow.Author.Count.{below-more}
 use lib.Dec.{lit<}
-use lib.ListN.{length, getD, set, length-set, replicate, length-replicate, getD-replicate, List·getD-eq-default}
+use lib.ListN.{length, getD, set, length-set, replicate, length-replicate}
 use lib.Seq.{getD-set-same, getD-set-other}
 use Rattle.scope.specs.Limits.{byteValues, classLimit}
 use Rattle.scope.specs.Canonical.{met}
 use Rattle.scope.specs.Count.{Over}
 use Rattle.scope.proofs.Arrival.{met-above, arrival-ext}
 use Rattle.scope.proofs.Tests.{split}
+use Rattle.scope.proofs.Lists.{zeros}
 use Rattle.determinise.specs.Layout.{bitAt}
 use Rattle.determinise.specs.Group.{Like, Key, Classes, Grouped, GroupAnswer, Below}
 use Rattle.determinise.specs.declared.Counted.{Counted}
@@ -89,9 +90,6 @@ pub record Splitting (m : List ℕ) (p : ℕ) (old names map : List ℕ) (k b : 
 
 bit-small : (m : List ℕ) (p b : ℕ) → bitAt m p b < 2
 bit-small m p b = mod-lt _ (lit< tt)
-
-zeros : (n i : ℕ) → _≡_ {A = ℕ} (getD (replicate n 0) i 0) 0
-zeros n i = elim (split i n) [ inl h ↦ getD-replicate n i 0 0 h | inr h ↦ List·getD-eq-default (replicate n 0) 0 (omega (arith, length-replicate {A = ℕ} n 0)) ]
 
 pub splitting-none : (m : List ℕ) (p : ℕ) (old : List ℕ) → Splitting m p old (replicate (2 * classLimit) 0) (replicate byteValues 0) 0 0
 unfolding met

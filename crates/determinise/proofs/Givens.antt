@@ -9,13 +9,12 @@ use Prim.Native.Nat.{ℕ, _+_, _-_, _^_, _≤_, _<_}
 use mathlib.Core.Path.{_≡_, sym, ap, subst, _∙_}
 use mathlib.Core.Bool.{Bool, true}
 use mathlib.Core.List.{List, _++_, append-nil}
-use mathlib.Core.Logic.{inl, inr, _↔_}
+use mathlib.Core.Logic.{_↔_}
 use native.Mathlib.Nat.{mod-lt}
 use native.Mathlib.Omega.{arith}
-use borrow.Author.Tests.{eqb-true, eqb-false}
 use borrow.Rule.Slice.PartMut.{putMid, postOf, same-len-mid}
 use lib.Bits.{bitOr}
-use lib.Dec.{eqb, lit<}
+use lib.Dec.{lit<}
 use lib.ListN.{length, getD, take, drop, length-drop}
 use lib.Seq.{take-all, length-take-le, drop-at, drop-length, getD-drop}
 use Rattle.scope.specs.Limits.{byteValues, classLimit, positionLimit, roomBytes}
@@ -27,7 +26,8 @@ use Rattle.scope.specs.Reached.{Share, ManyClasses, FewClasses}
 use Rattle.scope.proofs.Bits.{holders-is, has-given, has-pow}
 use Rattle.scope.proofs.Glushkov.{at-in}
 use Rattle.scope.proofs.Moves.{same-bits, joined-is}
-use Rattle.scope.proofs.Tests.{which, Tests, and, itself, equals, same-test}
+use Rattle.scope.proofs.Tests.{Tests, and, itself, equals, same-test, bit-same}
+use Rattle.scope.proofs.Buffers.{all-kept}
 use Rattle.determinise.specs.Layout.{imageAt, bitAt, holds}
 use Rattle.determinise.specs.Group.{Like, Grouped, GroupAnswer}
 use Rattle.determinise.specs.Masks.{maskOf, Masked}
@@ -40,14 +40,6 @@ use Rattle.determinise.specs.declared.Built.the-variants.{Done, Classes,
 use Rattle.determinise.proofs.Count.{within-all}
 use Rattle.determinise.proofs.Classes.{class-below, class-used}
 use Rattle.determinise.proofs.Masking.{mask-like}
-use Rattle.determinise.proofs.Kept.{tail-none}
-
--- two bits with the same test are the same
-bit-same : (x y : ℕ) → x < 2 → y < 2 → eqb x 1 ≡ eqb y 1 → x ≡ y
-bit-same x y h k e = elim (which (eqb x 1)) [
-  | inl t ↦ omega (arith, eqb-true x 1 t, eqb-true y 1 (sym e ∙ t))
-  | inr t ↦ omega (arith, eqb-false x 1 t, eqb-false y 1 (sym e ∙ t))
-]
 
 module _ (e : Re) (bytes words : List ℕ) (count last : ℕ) (null : Bool) (g : Given e bytes words count last null) where
   -- the mask of a byte has the positions that hold it
@@ -145,8 +137,8 @@ module _ {bytes words : List ℕ} (count last : ℕ) (null : Bool) (map : List �
   pub built-classes : c ≡ Many → Builds bytes words count last null bytes words Classes
   built-classes y = record {
     outcome = λ e g. many-classes e bytes words count last null g (subst (GroupAnswer (Like bytes count) map) y a);
-    bytes-kept = tail-none _ _;
-    words-kept = tail-none _ _;
+    bytes-kept = all-kept _ _;
+    words-kept = all-kept _ _;
   }
 
   -- the image, as a part of the bytes

@@ -2,7 +2,7 @@
 --   kept-none, kept-wide, kept-join, kept-set: nothing is changed; a wider part; one change after another; one element
 --   kept-sets: a set before the part is kept
 --   put-kept: storing a set
---   kept-tail, tail-none: all but the first elements is kept
+--   kept-tail: all but the first elements is kept
 use Prim.Native.Nat.{ℕ, _+_, _*_, _≤_, _<_}
 use mathlib.Core.Path.{_≡_, refl, sym, _∙_}
 use mathlib.Core.List.{List}
@@ -52,7 +52,3 @@ put-kept p = record { size = p .size; outside = p .outside }
 -- what comes after the part is kept
 pub kept-tail : {a b : List ℕ} {from to : ℕ} → Kept a b from to → TailKept to a b
 kept-tail k = record { size = k .size; outside = λ i h. k .outside i (inr h) }
-
--- all is kept
-pub tail-none : (n : ℕ) (m : List ℕ) → TailKept n m m
-tail-none n m = record { size = refl; outside = λ i h. refl }

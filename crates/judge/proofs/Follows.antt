@@ -8,12 +8,13 @@
 use Prim.Native.Nat.{ℕ, zero, suc, _+_, _<_, _≤_}
 use mathlib.Core.Path.{_≡_, refl, sym, ap, _∙_}
 use mathlib.Core.Bool.{false}
-use mathlib.Core.List.{List, [], _∷_}
+use mathlib.Core.List.{List}
 use native.Mathlib.Omega.{arith}
 use native.Mathlib.Numerals.{add-one}
 use lib.ListN.{length, getD}
 use Rattle.scope.specs.Tree.{Tree}
 use Rattle.scope.specs.Judge.{Pattern}
+use Rattle.scope.proofs.Lists.{any-default}
 use Rattle.scope.proofs.Modes.{Piece, atom, at, isStuck, after, runTo}
 use Rattle.scope.proofs.Places.{legal-exact, stuck-at, unfinished}
 use Rattle.judge.specs.declared.Judged.{Judged}
@@ -46,12 +47,6 @@ free-stage (suc (suc (suc (suc (suc k))))) p n h = absurd (omega arith)
 -- so a record in one of them is not
 free : (x : Reading) → x .stage ≤ 4 → isStuck (standing x) ≡ false
 free x h = free-stage (x .stage) (pieceOf (x .piece)) (x .deep) h
-
--- a byte of the text, by whatever it would be past the end
-any-default : (s : List ℕ) (i d e : ℕ) → i < length s → getD s i d ≡ getD s i e
-any-default [] i d e h = absurd (omega arith)
-any-default (b ∷ s) zero d e h = refl
-any-default (b ∷ s) (suc i) d e h = any-default s i d e (omega arith)
 
 module _ (s : List ℕ) (i : ℕ) {x y : Reading} (h : i < length s) (f : Follows s i x) (t : Advances x (getD s i 0) i y) where
   -- the next state

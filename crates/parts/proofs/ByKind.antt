@@ -20,10 +20,10 @@ use Rattle.scope.specs.Limits.{byteValues, classLimit, classesAt, cellsAt, room
 use Rattle.scope.specs.Room.{statesOf, classesOf, classOf, cellOf, nextOf, Sound}
 use Rattle.scope.proofs.Room.{cell-used, cells-fit}
 use Rattle.scope.proofs.Tests.{split}
+use Rattle.scope.proofs.Lists.{zeros}
 use Rattle.parts.specs.Side.{both, cellIn}
 use Rattle.parts.specs.Kinds.{pairOf, KindsTo, KindsOf, Used, ColumnsOf}
 use Rattle.parts.specs.Parts.{Alike, Agree}
-use Rattle.parts.proofs.Names.{zeros}
 use Rattle.parts.proofs.Rooms.{cell-next}
 
 -- a byte's class is below 64
@@ -232,12 +232,15 @@ module _ (a b kind least : List ℕ) (count : ℕ) (k : KindsOf a b kind least c
   unfolding nextOf
   kind-left q = rw (k .left x h) refl
 
-  -- a byte below the least byte of a kind is of a smaller kind
-  pub kind-before : (i : ℕ) → i < count → x < getD least i 0 → getD kind x 0 < i
-  kind-before i l m = elim (split (getD kind x 0) i) [
-    | inl y ↦ y
-    | inr y ↦ elim (split i (getD kind x 0)) [
-      | inl z ↦ absurd (omega (arith, k .rising i (getD kind x 0) (k .below x h) z, k .low x h))
-      | inr z ↦ (let e : getD kind x 0 ≡ i = omega arith in absurd (omega (arith, rw e at (k .low x h))))
-    ]
+-- a byte below the least byte of a kind is of a smaller kind
+pub kind-before : {a b kind least : List ℕ} {count : ℕ} → KindsOf a b kind least count → (x i : ℕ) → i < count → x < getD least i 0 → getD kind x 0 < i
+kind-before {kind = kind} {least = least} k x i l m = elim (split (getD kind x 0) i) [
+  | inl y ↦ y
+  | inr y ↦ elim (split i (getD kind x 0)) [
+    | inl z ↦ absurd (omega (arith, k .rising i (getD kind x 0) (k .below x h) z, k .low x h))
+    | inr z ↦ (let e : getD kind x 0 ≡ i = omega arith in absurd (omega (arith, rw e at (k .low x h))))
   ]
+]
+  where
+    h : x < byteValues
+    h = omega (arith, k .byte i l)

@@ -13,7 +13,7 @@ use Rattle.scope.specs.Machine.{Machine}
 use Rattle.scope.specs.Rounds.{Together}
 use Rattle.scope.proofs.Rounds.{together-flip, together-chain, together-less, rounds-bound}
 use Rattle.parts.specs.Refined.{Parent, Refined, Climbs, Climbed}
-use Rattle.parts.proofs.Turns.{part-name}
+use Rattle.parts.proofs.Turns.{part-own}
 
 pub record On (M : Machine) (part born : List ℕ) (q r y : ℕ) : Type 0 where
   pub inside : y < M .states
@@ -31,7 +31,7 @@ module _ (part parent born : List ℕ) (q r : ℕ) where
   climb-first M k d h le =
       let x = getD part q 0 in
       let l : x < M .states = omega (arith, d .named q h .low) in
-      let n = part-name M k (M .states) part (d .named) q h in
+      let n = part-own M k (M .states) part (d .named) q h .like in
       record {
         inside = l;
         name = n;

@@ -10,17 +10,17 @@ use mathlib.Core.Logic.{inl, inr}
 use mathlib.Core.List.{List}
 use native.Mathlib.Omega.{arith}
 use borrow.Author.Count.{below-more}
-use borrow.Author.Tests.{eqb-true, eqb-false}
 use lib.Dec.{eqb, ltb}
 use lib.Seq.{getD-set-other}
 use lib.ListN.{length, getD, set, replicate, length-set}
 use Rattle.scope.specs.Limits.{marksAt}
 use Rattle.scope.specs.Room.{statesOf, markOf, Sound}
 use Rattle.scope.specs.Rounds.{Together}
-use Rattle.scope.proofs.Tests.{which, split, below, not-below}
+use Rattle.scope.proofs.Tests.{which, split, below, not-below, bit-same}
+use Rattle.scope.proofs.Lists.{zeros}
 use Rattle.parts.specs.Side.{both, markIn, side, Side}
 use Rattle.parts.specs.Parts.{First, Named}
-use Rattle.parts.proofs.Names.{zeros, named-none, named-more}
+use Rattle.parts.proofs.Names.{named-none, named-more}
 
 -- two states have one mark
 abbrev pub Marked : List ℕ → List ℕ → ℕ → ℕ → Type 0
@@ -46,12 +46,6 @@ module _ (a b : List ℕ) (q : ℕ) where
     | inl x ↦ omega (arith, mark-left x, s .marks (marksAt + q) (omega arith) (omega arith))
     | inr x ↦ omega (arith, mark-right x, t .marks (marksAt + (q - statesOf a)) (omega arith) (omega arith))
   ]
-
-one-mark : (x y : ℕ) → x < 2 → y < 2 → eqb x 1 ≡ eqb y 1 → x ≡ y
-one-mark x y h k e = elim (which (eqb x 1)) [
-  | inl f ↦ eqb-true x 1 f ∙ sym (eqb-true y 1 (sym e ∙ f))
-  | inr f ↦ omega (arith, eqb-false x 1 f, eqb-false y 1 (sym e ∙ f))
-]
 
 pub record Begun (a b part : List ℕ) (other q : ℕ) : Type 0 where
   pub long : length part ≡ 256
@@ -122,7 +116,7 @@ begun-all a b part other n s d q h =
     record {
       low = f .low;
       like = accepts-mark a b (getD part q 0) ∙ ap (λ (m : ℕ). eqb m 1) (f .like) ∙ sym (accepts-mark a b q);
-      least = λ p l e. f .least p l (one-mark (markIn a b p) (markIn a b q)
+      least = λ p l e. f .least p l (bit-same (markIn a b p) (markIn a b q)
           (mark-small a b p (s .left) (s .right) (omega (arith, f .low, s .few)))
           (mark-small a b q (s .left) (s .right) (omega (arith, s .few)))
           (sym (accepts-mark a b p) ∙ e ∙ accepts-mark a b q));

@@ -1,37 +1,17 @@
 -- Naming by the least member. Where R is an equivalence, two states have one name exactly if R relates them, and a name is its own name.
---   is, isnt: a test that passed, or failed, decides
---   zeros: a list of zeros has 0 everywhere
 --   first-own, first-one: a first state is the first of its own; related states have one first state
 --   named-same, named-told, named-below, named-name, named-own: two states have one name exactly if R relates them, and so on for the names in a list
 --   named-none, named-more, renamed-none, renamed-more: names are stored one after the other
 --   agree-itself, agree-flip, agree-chain: to agree is an equivalence
-use Prim.Native.Nat.{ℕ, _+_, _≤_, _<_}
+use Prim.Native.Nat.{ℕ, _+_, _<_}
 use mathlib.Core.Path.{_≡_, refl, sym, _∙_}
-use mathlib.Core.Bool.{true, false, false≢true}
-use mathlib.Core.Logic.{inl, inr}
 use mathlib.Core.List.{List}
 use native.Mathlib.Omega.{arith}
 use borrow.Author.Count.{below-more}
 use lib.Seq.{getD-set-same, getD-set-other}
-use lib.ListN.{length, getD, set, replicate, length-set, length-replicate, getD-replicate, List·getD-eq-default}
-use Rattle.scope.proofs.Tests.{level, split}
-use Rattle.slices.specs.Parts.{Decides}
+use lib.ListN.{length, getD, set, length-set}
+use Rattle.scope.proofs.Tests.{level}
 use Rattle.parts.specs.Parts.{First, Named, Renamed, Alike, Agree}
-
--- a test that passed decides
-pub is : {P : Type 0} → P → Decides true P
-is p = record { yes = λ e. p; no = λ e q. false≢true (sym e) }
-
--- and one that failed
-pub isnt : {P : Type 0} → (P → ⊥) → Decides false P
-isnt n = record { yes = λ e. absurd (false≢true e); no = λ e p. n p }
-
--- a list of zeros has 0 everywhere
-pub zeros : (n i : ℕ) → _≡_ {A = ℕ} (getD (replicate n 0) i 0) 0
-zeros n i = elim (split i n) [
-  | inl l ↦ getD-replicate n i 0 0 l
-  | inr l ↦ (let k : length {A = ℕ} (replicate n 0) ≤ i = omega (arith, length-replicate {A = ℕ} n 0) in List·getD-eq-default (replicate n 0) 0 k)
-]
 
 module _ (R : ℕ → ℕ → Type 0) (itself : (p : ℕ) → R p p) (flip : (p q : ℕ) → R p q → R q p) (chain : (p q t : ℕ) → R p q → R q t → R p t) where
   -- a first state is the first of its own

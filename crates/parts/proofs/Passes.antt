@@ -18,10 +18,12 @@ use borrow.Author.Count.{below-more}
 use lib.Seq.{getD-set-same, getD-set-other}
 use lib.ListN.{length, getD, set, replicate, length-set}
 use Rattle.scope.proofs.Tests.{split}
+use Rattle.scope.proofs.Lists.{zeros}
 use Rattle.slices.specs.Parts.{Decides}
+use Rattle.slices.proofs.Laws.{holds, fails}
 use Rattle.parts.specs.Parts.{First, Renamed, Alike, Agree}
 use Rattle.parts.specs.Round.{Within, Last, Chain, Opens, Opened, Births}
-use Rattle.parts.proofs.Names.{zeros, is, isnt, first-own, renamed-none, renamed-more, agree-itself, agree-flip, agree-chain}
+use Rattle.parts.proofs.Names.{first-own, renamed-none, renamed-more, agree-itself, agree-flip, agree-chain}
 
 -- a state of a chain, or 0 at its end, is below the next to be placed
 pub chain-low : (R : ℕ → ℕ → Type 0) (old : List ℕ) (h e l : ℕ) → h < e → (0 < l → Within R old h e l) → l < e
@@ -125,7 +127,7 @@ passed-none R old new parent born r = record {
   chain = record { top = λ h l. absurd (omega arith); down = λ p l. absurd (omega arith); begun = λ p l. absurd (omega arith) };
   zero = λ x l. zeros 256 x;
   births = record { made = λ x l. absurd (omega arith); kept = λ x n. (refl, refl); parent-long = refl; born-long = refl };
-  some = isnt (λ o. omega (arith, o .is-state));
+  some = fails (λ o. omega (arith, o .is-state));
   link-long = refl;
 }
 
@@ -237,6 +239,6 @@ module _ (R : ℕ → ℕ → Type 0) (old new₀ new link parent parent′ born
           parent-long = length-set parent′ q h ∙ b .parent-long;
           born-long = length-set born′ q r ∙ b .born-long;
         };
-        some = is (record { state = q; is-state = omega arith; opens = opens });
+        some = holds (record { state = q; is-state = omega arith; opens = opens });
         link-long = length-set (set link q v) h q ∙ length-set link q v ∙ d .link-long;
       }

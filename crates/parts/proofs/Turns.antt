@@ -1,7 +1,7 @@
 -- The rounds, one after the other. A round that opens a part shows that the last one did not rest; so no more rounds are made than there are, and where a
 -- round opens none, nothing splits any more.
 --   together-itself: a state is together with itself
---   part-same, part-told, part-name, part-own: names after r rounds
+--   part-same, part-told, part-own: names after r rounds
 --   round-in, round-out: to agree in the parts of one round is to be together after the next
 --   named-next: so the names that a pass gives are those of the next round
 --   name-stays: a state that begins a part keeps it
@@ -20,11 +20,12 @@ use lib.ListN.{getD, replicate}
 use Rattle.scope.specs.Machine.{Machine, Closed}
 use Rattle.scope.specs.Rounds.{Together, Rests}
 use Rattle.scope.proofs.Tests.{split}
+use Rattle.scope.proofs.Lists.{zeros}
 use Rattle.scope.proofs.Rounds.{together-in, together-flip, together-chain, rests-later, rounds-stop, rounds-bound}
 use Rattle.parts.specs.Parts.{Named, Alike, Agree}
 use Rattle.parts.specs.Round.{Opened, Births}
 use Rattle.parts.specs.Refined.{Birth, Tree, Refined}
-use Rattle.parts.proofs.Names.{zeros, named-same, named-told, named-name, named-own}
+use Rattle.parts.proofs.Names.{named-same, named-told, named-own}
 
 -- a state is together with itself
 pub together-itself : (M : Machine) (r p : ℕ) → Together M r p p
@@ -38,10 +39,6 @@ module _ (M : Machine) (r n : ℕ) (part : List ℕ) (d : Named (Together M r) p
   -- the other way round
   pub part-told : (p q : ℕ) → p < n → q < n → Together M r p q → Alike part p q
   part-told = named-told (Together M r) (together-itself M r) (together-flip M r) (together-chain M r) part n d
-
-  -- a part is named by a state of it
-  pub part-name : (q : ℕ) → q < n → getD part (getD part q 0) 0 ≡ getD part q 0
-  part-name = named-name (Together M r) (together-itself M r) (together-flip M r) (together-chain M r) part n d
 
   -- the names are those of the parts that they make
   pub part-own : Named (Alike part) part n
@@ -88,7 +85,7 @@ module _ (M : Machine) (r : ℕ) (old new : List ℕ) (o : Named (Together M r) 
       stay : (q : ℕ) → q < M .states → getD new q 0 ≡ getD old q 0
       stay q k =
           let l : getD new q 0 < M .states = omega (arith, w q k .low) in
-          sym (begun (getD new q 0) l (part-name M (suc r) (M .states) new w q k)) ∙ part-told M r (M .states) old o (getD new q 0) q l k (w q k .like .0)
+          sym (begun (getD new q 0) l (part-own M (suc r) (M .states) new w q k .like)) ∙ part-told M r (M .states) old o (getD new q 0) q l k (w q k .like .0)
 
   -- a part is opened: something split
   restless-now : Opened old new (M .states) → Rests M r → ⊥
@@ -126,7 +123,7 @@ module _ (M : Machine) (r : ℕ) (old new : List ℕ) (o : Named (Together M r) 
             let (ep, eb) = b .made x h (record { begins = e; began = k }) in
             let m : getD old x 0 < x = omega (arith, o x h .low, k) in
             let y : getD old x 0 < M .states = omega arith in
-            let n = part-name M r (M .states) old o x h in
+            let n = part-own M r (M .states) old o x h .like in
             let f = kept (getD old x 0) n in
             record {
               by = omega (arith, eb);

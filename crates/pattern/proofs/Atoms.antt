@@ -10,16 +10,16 @@ use mathlib.Core.List.{List}
 use native.Mathlib.Decide.{ℕ-discrete}
 use native.Mathlib.Omega.{arith}
 use Rattle.scope.specs.Bytes.{byte}
-use Rattle.scope.specs.Grammar.{literal, escapable, plain, coded, Single, a-dot, a-literal, an-escape, a-class, Level, atoms, exprs, Reads, single, no-byte, no-word, in-group}
+use Rattle.scope.specs.Grammar.{escapable, Single, Level, atoms, exprs, Reads, single, no-byte, no-word, in-group}
 use Rattle.scope.specs.Limits.{positionLimit}
 use Rattle.scope.specs.Tree.{Leaf, Tree, nothing, empty, position, group, setOf, expr}
-use Rattle.scope.proofs.Grammar.{single-on, reads-on}
+use Rattle.scope.proofs.Grammar.{single-on, reads-on, single-group, single-back}
 use Rattle.pattern.specs.declared.shapes.Part.{Part}
 use Rattle.pattern.specs.Parts.{Backslash, Some, Took}
 use Rattle.pattern.specs.Tails.{closes, Whole}
 use Rattle.pattern.specs.Right.{Alone, Blank, Moved}
 use Rattle.pattern.specs.Answer.{Ready, Found, Answer}
-use Rattle.pattern.proofs.Grammar.{other, single-in, reads-in}
+use Rattle.pattern.proofs.Grammar.{single-in, reads-in}
 use Rattle.pattern.proofs.Classes.{some}
 use Rattle.pattern.proofs.Rights.{right-alone, right-empty, right-nothing, right-moved}
 use Rattle.pattern.proofs.Tails.{ready}
@@ -31,23 +31,6 @@ answer p f =
     record { on = omega (arith, reads-on (p .whole .0)); inside = omega (arith, reads-in (p .whole .0)); says = f }
 
 module _ {s : List ℕ} where
-  -- an atom of one position opens no group, and its escape is of a byte
-  single-group : {i j : ℕ} {x : Leaf} → Single s i j x → byte s i ≡ 40 → ⊥
-  unfolding literal
-  single-group (a-dot h) e = omega arith
-  single-group (a-literal h) e = other literal h refl e
-  single-group (an-escape (plain h k)) e = omega arith
-  single-group (an-escape (coded h k l m)) e = omega arith
-  single-group (a-class h l k) e = omega arith
-
-  single-back : {i j : ℕ} {x : Leaf} → Single s i j x → byte s i ≡ 92 → (c : ℕ) → byte s (i + 1) ≡ c → escapable c ≡ false → (c ≡ 120 → ⊥) → ⊥
-  unfolding literal
-  single-back (a-dot h) e c d f n = omega arith
-  single-back (a-literal h) e c d f n = other literal h refl e
-  single-back (an-escape (plain h k)) e c d f n = other escapable k f d
-  single-back (an-escape (coded h k l m)) e c d f n = n (sym d ∙ k)
-  single-back (a-class h l k) e c d f n = omega arith
-
   -- ---- outside of parentheses
 
   is-empty : {i j : ℕ} {t : Tree} → byte s i ≡ 92 → byte s (i + 1) ≡ 101 → Reads s atoms i j t → (i + 2 ≡ j) × (t ≡ empty)

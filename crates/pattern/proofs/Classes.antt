@@ -16,10 +16,10 @@ use Rattle.scope.specs.Bytes.{ByteSet, byte, between}
 use Rattle.scope.specs.Grammar.{classLiteral, ClassByte, OneItem, one-byte, low-high, Items, last-item, more-items}
 use Rattle.scope.specs.Limits.{patternLimit}
 use Rattle.scope.specs.Tree.{Item, lone, range, itemSet, itemsSet}
-use Rattle.scope.proofs.Grammar.{class-byte-on, class-byte-one, item-on, items-on}
+use Rattle.scope.proofs.Grammar.{class-byte-on, class-byte-one, item-on, items-on, items-head}
 use Rattle.pattern.specs.Held.{Marked}
 use Rattle.pattern.specs.Parts.{Some, WholeItem, WholeItems, Took}
-use Rattle.pattern.proofs.Grammar.{class-byte-in, item-in, items-in, items-head}
+use Rattle.pattern.proofs.Grammar.{class-byte-in, item-in, items-in}
 use Rattle.pattern.proofs.Held.{Left, left-all, left-more, left-none, marked-as, between-one}
 
 -- a reading that moves on and ends inside of the text begins there

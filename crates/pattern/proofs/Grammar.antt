@@ -1,38 +1,27 @@
 -- A text byte by byte: where a byte stands inside of it, and what the first byte of a thing tells of the rest. The end of the text is read as 256, which passes
 -- no test of the grammar.
---   any-default, inside: a place inside of the text
---   other: a byte that passes a test is none that fails it
+--   inside: a place inside of the text
 --   escape-in .. reads-in: what is read ends inside of the text
 --   escape-coded, escape-plain, class-escape, class-bare: the first bytes of an escape, and of a byte in a class, decide how it is read
---   escape-head, items-head, not-star, not-stop: the first byte of an escape, of a class's items, of what the grammar reads
-use Prim.Native.Nat.{ℕ, zero, suc, _+_, _*_, _<_, _≤_}
+--   not-star, not-stop: the first byte of what the grammar reads
+use Prim.Native.Nat.{ℕ, _+_, _*_, _<_, _≤_}
 use mathlib.Core.Path.{_≡_, refl, sym, ap, _∙_}
-use mathlib.Core.Bool.{Bool, true, false, false≢true, _||_}
-use mathlib.Core.List.{List, _∷_, []}
+use mathlib.Core.Bool.{true, _||_}
+use mathlib.Core.List.{List}
 use mathlib.Core.Logic.{inl, inr}
-use native.Mathlib.Nat.{not-suc-le-zero, le-of-suc-le-suc}
 use native.Mathlib.Omega.{arith}
 use lib.Dec.{eqb}
-use lib.ListN.{length, getD, List·getD-eq-default}
+use lib.ListN.{length, List·getD-eq-default}
 use Rattle.scope.specs.Bytes.{ByteSet, byte}
 use Rattle.scope.specs.Tree.{Item, Leaf, Tree}
 use Rattle.scope.specs.Grammar.{literal, escapable, classLiteral, hex, Escape, plain, coded, ClassByte, bare, escaped, OneItem, one-byte, low-high, Items, last-item, more-items, Single, a-dot, a-literal, an-escape, a-class, Level, Reads, single, no-byte, no-word, in-group, one-atom, one-star, one-factor, next-factor, one-branch, next-branch}
 use Rattle.scope.proofs.Tests.{split, or, equals}
+use Rattle.scope.proofs.Grammar.{other, escape-head}
 use Rattle.pattern.specs.Tails.{stops}
-
--- inside of a list what is read past its end does not matter
-pub any-default : (s : List ℕ) (i d e : ℕ) → i < length s → getD s i d ≡ getD s i e
-any-default [] i d e h = absurd (not-suc-le-zero h)
-any-default (x ∷ s) zero d e h = refl
-any-default (x ∷ s) (suc i) d e h = any-default s i d e (le-of-suc-le-suc h)
 
 -- a byte that is not read as 256 stands inside of the text
 pub inside : (s : List ℕ) (i : ℕ) → (byte s i ≡ 256 → ⊥) → i < length s
 inside s i n = elim (split i (length s)) [ inl h ↦ h | inr h ↦ absurd (n (List·getD-eq-default s 256 h)) ]
-
--- a byte that passes a test is none that fails it
-pub other : (f : ℕ → Bool) {n c : ℕ} → f n ≡ true → f c ≡ false → n ≡ c → ⊥
-other f h k e = false≢true (sym k ∙ ap f (sym e) ∙ h)
 
 -- ---- what is read ends inside of the text
 
@@ -77,10 +66,6 @@ module _ {s : List ℕ} where
 -- ---- how a byte is read
 
 module _ {s : List ℕ} where
-  pub escape-head : {i j b : ℕ} → Escape s i j b → byte s i ≡ 92
-  escape-head (plain h k) = h
-  escape-head (coded h k l m) = h
-
   -- `\x`: two digits
   pub escape-coded : {i j b a x y h l : ℕ} → Escape s i j b → a ≡ byte s (i + 1) → a ≡ 120 → x ≡ byte s (i + 2) → h ≡ hex x → y ≡ byte s (i + 3) → l ≡ hex y
       → (h < 16) × (l < 16) × Escape s i (i + 4) (h * 16 + l)
@@ -106,20 +91,6 @@ module _ {s : List ℕ} where
   class-bare (escaped x) p n = absurd (n (p ∙ escape-head x))
 
 -- ---- first bytes
-
-module _ {s : List ℕ} where
-  -- a byte of a class begins with no byte that is neither bare nor a backslash
-  class-byte-head : {i j b : ℕ} → ClassByte s i j b → (c : ℕ) → classLiteral c ≡ false → (c ≡ 92 → ⊥) → byte s i ≡ c → ⊥
-  class-byte-head (bare h) c f n e = other classLiteral h f e
-  class-byte-head (escaped x) c f n e = n (sym e ∙ escape-head x)
-
-  item-head : {i j : ℕ} {x : Item} → OneItem s i j x → (c : ℕ) → classLiteral c ≡ false → (c ≡ 92 → ⊥) → byte s i ≡ c → ⊥
-  item-head (one-byte d) = class-byte-head d
-  item-head (low-high d g v) = class-byte-head d
-
-  pub items-head : {i j : ℕ} {l : List Item} → Items s i j l → (c : ℕ) → classLiteral c ≡ false → (c ≡ 92 → ⊥) → byte s i ≡ c → ⊥
-  items-head (last-item x) = item-head x
-  items-head (more-items x l) = item-head x
 
 -- b begins an atom
 unfoldable begins : ByteSet

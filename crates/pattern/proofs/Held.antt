@@ -4,7 +4,7 @@
 --   mark-bit: one bit was stored
 --   between-more, between-none, between-one: the bytes from b on; none; one
 --   marked-as: the same bytes under another name
---   kept-all, kept-more: a buffer whose tail stays
+--   kept-more: a buffer whose tail stays
 use Prim.Native.Nat.{ℕ, _+_, _*_, _/_, _%_, _^_, _<_, _≤_}
 use mathlib.Core.Path.{_≡_, refl, sym, ap, ap₂, _∙_}
 use mathlib.Core.Bool.{Bool, false, _&&_, _||_, and-false, or-false, or-assoc, and-or-distrib-left}
@@ -23,6 +23,7 @@ use Rattle.scope.specs.Bytes.{ByteSet, between}
 use Rattle.scope.specs.Limits.{byteValues, positionLimit}
 use Rattle.scope.proofs.Bits.{has-or, has-pow}
 use Rattle.scope.proofs.Tests.{split}
+use Rattle.scope.proofs.Buffers.{all-kept}
 use Rattle.pattern.specs.Held.{byteSet, byteSets, held, Marked}
 
 pub record Left (k : ℕ) (s r : ByteSet) (m m′ : List ℕ) : Type 0 where
@@ -31,16 +32,14 @@ pub record Left (k : ℕ) (s r : ByteSet) (m m′ : List ℕ) : Type 0 where
 
 -- ---- what stays
 
-pub kept-all : (n : ℕ) (m : List ℕ) → TailKept n m m
-kept-all n m = record { size = refl; outside = λ i h. refl }
-
+-- one change after another
 pub kept-more : {n : ℕ} {a b c : List ℕ} → TailKept n a b → TailKept n b c → TailKept n a c
 kept-more x y = record { size = y .size ∙ x .size; outside = λ i h. y .outside i h ∙ x .outside i h }
 
 -- ---- what is left
 
 pub left-all : (k : ℕ) (s : ByteSet) (m : List ℕ) → Left k s s m m
-left-all k s m = record { kept = kept-all byteSets m; bits = λ q b h. refl }
+left-all k s m = record { kept = all-kept m byteSets; bits = λ q b h. refl }
 
 spread : (x k a r : Bool) → (x || (k && (a || r))) ≡ ((x || (k && a)) || (k && r))
 spread x k a r = rw and-or-distrib-left (sym (or-assoc x (k && a) (k && r)))

@@ -14,17 +14,18 @@ use lib.Dec.{ltb}
 use Rattle.scope.specs.Bits.{has, given}
 use Rattle.scope.specs.Buffers.{TailKept}
 use Rattle.scope.proofs.Tests.{split, not-below}
+use Rattle.scope.proofs.Buffers.{all-kept}
 use Rattle.sets.specs.Value.{setBits, setAt, Put}
 use Rattle.sets.proofs.Words.{put-other}
 use Rattle.pattern.specs.Right.{wordSets, Linked}
-use Rattle.pattern.proofs.Held.{kept-all, kept-more}
+use Rattle.pattern.proofs.Held.{kept-more}
 
 pub record Linking (p last first : ℕ) (m m′ : List ℕ) : Type 0 where
   pub kept : TailKept wordSets m m′
   pub sets : (q : ℕ) → setAt m′ q ≡ bitOr (setAt m q) (given (ltb q p && has last q) first)
 
 pub link-none : (last first : ℕ) (m : List ℕ) → Linking 0 last first m m
-link-none last first m = record { kept = kept-all wordSets m; sets = λ q. rw (not-below q 0 (omega arith)) (sym (or-zero-r (setAt m q))) }
+link-none last first m = record { kept = all-kept m wordSets; sets = λ q. rw (not-below q 0 (omega arith)) (sym (or-zero-r (setAt m q))) }
 
 pub link-more : {p last first v : ℕ} {m a b : List ℕ} → Linking p last first m a → p < setBits → v ≡ bitOr (setAt a p) (given (has last p) first) → Put a b p v → Linking (p + 1) last first m b
 link-more {p} {last} {first} {v} {m} {a} {b} l h e s = record {

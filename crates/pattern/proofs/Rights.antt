@@ -17,11 +17,12 @@ use Rattle.scope.proofs.Bits.{has-or, has-zero, has-pow, has-given, last-is}
 use Rattle.scope.proofs.Glushkov.{last-in}
 use Rattle.scope.proofs.Moves.{same-bits}
 use Rattle.scope.proofs.Tests.{which, same-test, equals}
+use Rattle.scope.proofs.Buffers.{all-kept}
 use Rattle.sets.specs.Value.{value, setAt}
 use Rattle.pattern.specs.declared.shapes.Part.{Part}
 use Rattle.pattern.specs.Held.{byteSets, held, Marked}
 use Rattle.pattern.specs.Right.{wordSets, Linked, Follows, Holds, Right, Alone, Blank, Beside, Either, Moved}
-use Rattle.pattern.proofs.Held.{kept-all, kept-more}
+use Rattle.pattern.proofs.Held.{kept-more}
 
 -- unions regrouped
 join-assoc : (a b c : ℕ) → bitOr (bitOr a b) c ≡ bitOr a (bitOr b c)
@@ -55,10 +56,10 @@ holds-one {k} {s} {m} x = record { kept = x .kept; bits = λ q b h. x .bits q b 
 -- an expression without positions
 module _ {e : Re} {k : ℕ} where
   follows-none : (m : List ℕ) → ((p : ℕ) → follow e k p ≡ 0) → Follows e k m m
-  follows-none m h = record { kept = kept-all wordSets m; sets = λ p. sym (ap (bitOr (setAt m p)) (h p) ∙ or-zero-r (setAt m p)) }
+  follows-none m h = record { kept = all-kept m wordSets; sets = λ p. sym (ap (bitOr (setAt m p)) (h p) ∙ or-zero-r (setAt m p)) }
 
   holds-none : (m : List ℕ) → ((b : ℕ) → holders e k b ≡ 0) → Holds e k m m
-  holds-none m h = record { kept = kept-all byteSets m; bits = λ q b l. sym (or-false (held m q b)) ∙ ap (λ (y : Bool). held m q b || y) (sym (ap (λ (n : ℕ). has n (q + 1)) (h b) ∙ has-zero (q + 1))) }
+  holds-none m h = record { kept = all-kept m byteSets; bits = λ q b l. sym (or-false (held m q b)) ∙ ap (λ (y : Bool). held m q b || y) (sym (ap (λ (n : ℕ). has n (q + 1)) (h b) ∙ has-zero (q + 1))) }
 
 -- ---- parts
 

@@ -12,10 +12,10 @@ use Rattle.scope.specs.Bytes.{byte, between}
 use Rattle.scope.specs.Grammar.{literal, Escape, Single, a-dot, a-literal, an-escape, a-class}
 use Rattle.scope.specs.Limits.{byteValues}
 use Rattle.scope.specs.Tree.{Leaf, anyByte, itemsSet, setOf}
-use Rattle.scope.proofs.Grammar.{escape-on, items-on, single-on, single-one}
+use Rattle.scope.proofs.Grammar.{other, escape-head, escape-on, items-on, single-on, single-one}
 use Rattle.pattern.specs.Held.{Marked}
 use Rattle.pattern.specs.Parts.{Some, WholeItems, Took}
-use Rattle.pattern.proofs.Grammar.{other, escape-head, escape-in, items-in, single-in}
+use Rattle.pattern.proofs.Grammar.{escape-in, items-in, single-in}
 use Rattle.pattern.proofs.Held.{marked-as, between-one}
 use Rattle.pattern.proofs.Classes.{some, took}
 

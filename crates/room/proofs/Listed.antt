@@ -7,16 +7,15 @@
 --   leads-by, leads-not: a state leads to a marked one exactly if one of the cells for these classes holds one
 use Prim.Native.Nat.{ℕ, _+_, _-_, _≤_, _<_}
 use mathlib.Core.Path.{_≡_, refl, sym, _∙_}
-use mathlib.Core.Logic.{inl, inr}
 use mathlib.Core.List.{List}
 use native.Mathlib.Omega.{arith}
 use native.Mathlib.Decide.{ℕ-discrete}
 use borrow.Author.Count.{below-more}
-use lib.ListN.{length, getD, set, length-set, replicate, getD-replicate, List·getD-eq-default}
+use lib.ListN.{length, getD, set, length-set, replicate}
 use lib.Seq.{getD-set-same, getD-set-other}
 use Rattle.scope.specs.Limits.{byteValues, classLimit, classesAt, marksAt}
 use Rattle.scope.specs.Room.{classesOf, classOf, cellOf, nextOf, Sound}
-use Rattle.scope.proofs.Tests.{split}
+use Rattle.scope.proofs.Lists.{zeros}
 use Rattle.room.specs.Live.{Holding, Leads, ones}
 use Rattle.room.proofs.Alive.{ones-set, ones-most}
 
@@ -29,18 +28,15 @@ pub record Listed (m seen l : List ℕ) (n i : ℕ) : Type 0 where
   pub place : (c : ℕ) → getD seen c 0 ≡ 1 → (j : ℕ) × (j < n) × (getD l j 0 ≡ c)
   pub done : (x : ℕ) → x < i → classesAt ≤ x → getD seen (getD m x 0) 0 ≡ 1
 
-zeros : (c : ℕ) → _≡_ {A = ℕ} (getD (replicate classLimit 0) c 0) 0
-zeros c = elim (split c classLimit) [ inl x ↦ getD-replicate classLimit c 0 0 x | inr x ↦ List·getD-eq-default (replicate classLimit 0) 0 x ]
-
 -- no byte
 pub listed-none : (m : List ℕ) → Listed m (replicate classLimit 0) (replicate classLimit 0) 0 classesAt
 listed-none m = record {
   size = refl;
   places = refl;
-  small = λ c. omega (arith, zeros c);
+  small = λ c. omega (arith, zeros classLimit c);
   number = refl;
   byte = λ j h. absurd (omega arith);
-  place = λ c h. absurd (omega (arith, zeros c));
+  place = λ c h. absurd (omega (arith, zeros classLimit c));
   done = λ x h k. absurd (omega arith);
 }
 

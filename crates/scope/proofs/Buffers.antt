@@ -1,8 +1,9 @@
 -- What the records on buffers determine: two lists that one record allows are equal, element by element.
 --   written-one, written-none, tail-one: of one buffer
+--   all-kept: what is not touched
 --   cleared-one, untouched-one: of the scratch
 use Prim.Native.Nat.{ℕ, _<_, _≤_}
-use mathlib.Core.Path.{_≡_, sym, _∙_}
+use mathlib.Core.Path.{_≡_, refl, sym, _∙_}
 use mathlib.Core.Logic.{_⊎_, inl, inr}
 use mathlib.Core.List.{List}
 use native.Mathlib.Omega.{arith}
@@ -29,6 +30,10 @@ tail-one {n} {old} {a} {b} u v e = ext-getD 0 a b (u .size ∙ sym (v .size)) (�
     at : (i : ℕ) → (i < n) ⊎ (n ≤ i) → getD a i 0 ≡ getD b i 0
     at i (inl k) = e i k
     at i (inr k) = u .outside i k ∙ sym (v .outside i k)
+
+-- what is not touched is kept
+pub all-kept : (m : List ℕ) (n : ℕ) → TailKept n m m
+all-kept m n = record { size = refl; outside = λ i h. refl }
 
 -- both parts of the scratch
 abbrev pub Alike : List ℕ → List ℕ → List ℕ → List ℕ → Type 0

@@ -1,7 +1,8 @@
 -- The theorems on the definitions of specs/, one file a notion.
 
--- Tests that decide, counting, numberings
+-- Tests that decide, lists, counting, numberings
 pub mod Tests
+pub mod Lists
 pub mod Hole
 pub mod Count
 pub mod Chain

@@ -65,12 +65,14 @@ small-by g e =
 
 -- ---- the bytes of the room
 
-listed-length : (f : ℕ → ℕ) (n : ℕ) → length (listed f n) ≡ n
+-- the bytes of a listing: as many as were asked for
+pub listed-length : (f : ℕ → ℕ) (n : ℕ) → length (listed f n) ≡ n
 unfolding listed
 listed-length f zero = refl
 listed-length f (suc n) = length-append (listed f n) (f n ∷ []) ∙ omega (arith, listed-length f n)
 
-listed-at : (f : ℕ → ℕ) (n i : ℕ) → i < n → getD (listed f n) i 0 ≡ f i
+-- each is what was listed
+pub listed-at : (f : ℕ → ℕ) (n i : ℕ) → i < n → getD (listed f n) i 0 ≡ f i
 unfolding listed
 listed-at f (suc n) i h = elim (split i n) [
   | inl k ↦ List·getD-append (listed f n) (f n ∷ []) 0 i (omega (arith, listed-length f n)) ∙ listed-at f n i k

@@ -4,19 +4,16 @@
 --   one-tree: a text has at most one tree
 use Prim.Native.Nat.{ℕ, _+_}
 use mathlib.Core.Path.{_≡_, refl, sym, ap, subst₂, _∙_}
-use mathlib.Core.Bool.{Bool, true, false, false≢true}
+use mathlib.Core.Bool.{true}
 use mathlib.Core.Logic.{_⊎_, inl, inr}
 use mathlib.Core.List.{List}
 use native.Mathlib.Omega.{arith}
 use lib.ListN.{length, List·getD-eq-default}
 use Rattle.scope.specs.Bytes.{byte}
 use Rattle.scope.specs.Tree.{Leaf, Tree, nothing, empty, position, group, starred, beside, either}
-use Rattle.scope.specs.Grammar.{literal, escapable, plain, coded, Single, a-dot, a-literal, an-escape, a-class, Level, atoms, factors, branches, exprs, Reads, single, no-byte, no-word, in-group, one-atom, one-star, one-factor, next-factor, one-branch, next-branch}
+use Rattle.scope.specs.Grammar.{literal, escapable, Single, a-dot, a-literal, an-escape, a-class, Level, atoms, factors, branches, exprs, Reads, single, no-byte, no-word, in-group, one-atom, one-star, one-factor, next-factor, one-branch, next-branch}
 use Rattle.scope.specs.Judge.{Pattern}
-use Rattle.scope.proofs.Grammar.{single-one}
-
-clash : (f : ℕ → Bool) {n c : ℕ} → n ≡ c → f c ≡ false → f n ≡ true → ⊥
-clash f e h k = false≢true (sym h ∙ ap f (sym e) ∙ k)
+use Rattle.scope.proofs.Grammar.{other, escape-head, single-one, single-group, single-back}
 
 -- a byte that ends a branch: `)`, `|`, or the end of the text
 data Stop (b : ℕ) : Type 0 where
@@ -37,12 +34,12 @@ record Starts (b : ℕ) : Type 0 where
 module _ (s : List ℕ) where
   literal-starts : (b : ℕ) → literal b ≡ true → Starts b
   unfolding literal
-  literal-starts b h = record { no-star = λ e. clash literal e refl h; no-stop = stop }
+  literal-starts b h = record { no-star = λ e. other literal h refl e; no-stop = stop }
     where
       stop : Stop b → ⊥
-      stop (close e) = clash literal e refl h
-      stop (bar e) = clash literal e refl h
-      stop (over e) = clash literal e refl h
+      stop (close e) = other literal h refl e
+      stop (bar e) = other literal h refl e
+      stop (over e) = other literal h refl e
 
   byte-starts : (b c : ℕ) → b ≡ c → (c ≡ 41 → ⊥) → (c ≡ 42 → ⊥) → (c ≡ 124 → ⊥) → (c ≡ 256 → ⊥) → Starts b
   byte-starts b c e f g h k = record { no-star = λ x. g (sym e ∙ x); no-stop = stop }
@@ -58,8 +55,7 @@ module _ (s : List ℕ) where
   single-starts : {i j : ℕ} {x : Leaf} → Single s i j x → Starts (byte s i)
   single-starts (a-dot h) = byte-starts _ 46 h (λ e. omega arith) (λ e. omega arith) (λ e. omega arith) (λ e. omega arith)
   single-starts (a-literal h) = literal-starts _ h
-  single-starts (an-escape (plain h k)) = back _ h
-  single-starts (an-escape (coded h k l m)) = back _ h
+  single-starts (an-escape x) = back _ (escape-head x)
   single-starts (a-class h l k) = byte-starts _ 91 h (λ e. omega arith) (λ e. omega arith) (λ e. omega arith) (λ e. omega arith)
 
   starts : {l : Level} {i j : ℕ} {t : Tree} → Reads s l i j t → Starts (byte s i)
@@ -187,40 +183,23 @@ module _ (s : List ℕ) where
 
   -- ---- atoms
 
-  -- an atom of one position opens no group, and its escape is of a byte
-  single-group : {i j : ℕ} {x : Leaf} → Single s i j x → byte s i ≡ 40 → ⊥
-  unfolding literal
-  single-group (a-dot h) e = omega arith
-  single-group (a-literal h) e = clash literal e refl h
-  single-group (an-escape (plain h k)) e = omega arith
-  single-group (an-escape (coded h k l m)) e = omega arith
-  single-group (a-class h l k) e = omega arith
-
-  single-escape : {i j : ℕ} {x : Leaf} → Single s i j x → byte s i ≡ 92 → (c : ℕ) → byte s (i + 1) ≡ c → escapable c ≡ false → (c ≡ 120 → ⊥) → ⊥
-  unfolding literal
-  single-escape (a-dot h) e c d f n = omega arith
-  single-escape (a-literal h) e c d f n = clash literal e refl h
-  single-escape (an-escape (plain h k)) e c d f n = clash escapable d f k
-  single-escape (an-escape (coded h k l m)) e c d f n = n (sym d ∙ k)
-  single-escape (a-class h l k) e c d f n = omega arith
-
   single-atom : {i j : ℕ} {x : Leaf} → Single s i j x → One atoms i j (position i x)
   unfolding escapable
   single-atom {i} x k u (single y) = let (e, d) = single-one x y in (e, ap (position i) d)
-  single-atom x k u (no-byte h l) = absurd (single-escape x h 101 l refl (λ e. omega arith))
-  single-atom x k u (no-word h l) = absurd (single-escape x h 48 l refl (λ e. omega arith))
+  single-atom x k u (no-byte h l) = absurd (single-back x h 101 l refl (λ e. omega arith))
+  single-atom x k u (no-word h l) = absurd (single-back x h 48 l refl (λ e. omega arith))
   single-atom x k u (in-group h r l) = absurd (single-group x h)
 
   no-byte-atom : {i : ℕ} → byte s i ≡ 92 → byte s (i + 1) ≡ 101 → One atoms i (i + 2) empty
   unfolding escapable
-  no-byte-atom h l k u (single y) = absurd (single-escape y h 101 l refl (λ e. omega arith))
+  no-byte-atom h l k u (single y) = absurd (single-back y h 101 l refl (λ e. omega arith))
   no-byte-atom h l k u (no-byte h′ l′) = (refl, refl)
   no-byte-atom h l k u (no-word h′ l′) = absurd (omega arith)
   no-byte-atom h l k u (in-group h′ r l′) = absurd (omega arith)
 
   no-word-atom : {i : ℕ} → byte s i ≡ 92 → byte s (i + 1) ≡ 48 → One atoms i (i + 2) nothing
   unfolding escapable
-  no-word-atom h l k u (single y) = absurd (single-escape y h 48 l refl (λ e. omega arith))
+  no-word-atom h l k u (single y) = absurd (single-back y h 48 l refl (λ e. omega arith))
   no-word-atom h l k u (no-byte h′ l′) = absurd (omega arith)
   no-word-atom h l k u (no-word h′ l′) = (refl, refl)
   no-word-atom h l k u (in-group h′ r l′) = absurd (omega arith)

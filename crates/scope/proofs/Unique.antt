@@ -5,17 +5,15 @@
 use Prim.Native.Nat.{ℕ, _+_, _-_, _*_, _/_, _%_, _≤_, _<_}
 use mathlib.Core.Path.{_≡_, refl, sym, ap₂, _∙_}
 use mathlib.Core.Logic.{inl, inr}
-use mathlib.Core.Bool.{false≢true}
 use mathlib.Core.List.{List, _∷_}
 use native.Mathlib.Nat.{mod-lt, div-add-mod', div-lt-iff-lt-mul}
 use native.Mathlib.Omega.{arith}
-use lib.Dec.{eqb}
 use lib.ListN.{getD}
 use Rattle.scope.specs.Limits.{byteValues, classesAt, marksAt, cellsAt}
 use Rattle.scope.specs.Machine.{Machine, Same, Equal, Closed, Reached}
 use Rattle.scope.specs.Room.{statesOf, classesOf, classOf, markOf, nextOf, machine, Sound}
 use Rattle.scope.specs.Canonical.{met, entry, Canonical}
-use Rattle.scope.proofs.Tests.{split, level}
+use Rattle.scope.proofs.Tests.{split, bit-same}
 use Rattle.scope.proofs.Room.{SameBytes, SameParts, bytes-from-parts}
 use Rattle.scope.proofs.Run.{run-below, run-agree, sound-closed}
 use Rattle.scope.proofs.Least.{least}
@@ -46,16 +44,6 @@ row-known : (m : List ℕ) → Canonical m → (x : ℕ) → x < statesOf m * by
 row-known m c x h =
     let r : Reached (machine m) (x / byteValues) = c .reached (x / byteValues) (omega arith) in
     omega (arith, row-met (machine m) (x / byteValues) r, met-grow (entry (machine m)) 1 (x / byteValues * byteValues) x (omega arith))
-
--- a sound mark is 0 or 1, so the test of a mark tells it
-mark-one : (p q : ℕ) → p < 2 → q < 2 → eqb p 1 ≡ eqb q 1 → p ≡ q
-mark-one p q h k e = level p q (λ l. apart p q l k e) (λ l. apart q p l h (sym e))
-  where
-    apart : (p q : ℕ) → p < q → q < 2 → eqb p 1 ≡ eqb q 1 → ⊥
-    apart p q l k e =
-        let z : p ≡ 0 = omega arith in
-        let o : q ≡ 1 = omega arith in
-        false≢true (rw (z, o) at e)
 
 -- a class of a has a byte, whose class in b is below b's number of classes
 classes-most : (a b : List ℕ) → Canonical a → Sound b → ((x : ℕ) → x < byteValues → classOf a x ≡ classOf b x) → classesOf a ≤ classesOf b
@@ -128,7 +116,7 @@ module _ (a b : List ℕ) (c : Canonical a) (d : Canonical b) (e : Equal (machin
       let runs = run-agree (machine a) (machine b) (sound-closed a (c .sound)) next 0 (r .word) (c .sound .some-state) (r .bytes) in
       let left : markOf a q < 2 = c .sound .marks (marksAt + q) (omega arith) (omega arith) in
       let right : markOf b q < 2 = d .sound .marks (marksAt + q) (omega (arith, states)) (omega arith) in
-      mark-one (markOf a q) (markOf b q) left right (rw (← runs, r .leads) at (e (r .word) (r .bytes)))
+      bit-same (markOf a q) (markOf b q) left right (rw (← runs, r .leads) at (e (r .word) (r .bytes)))
 
   cell : (i : ℕ) → i < statesOf a * classesOf a → getD a (cellsAt + i) 0 ≡ getD b (cellsAt + i) 0
   unfolding nextOf

@@ -3,7 +3,7 @@
 --   stored-none, stored-more, stored-written: nothing stored; one element more; stored from the start on, as scope says it
 --   alike-more, alike-not: the comparison so far, with one element more that is the same, or not
 --   most-new, most-old: a bound of the elements so far, with one element more that is above it, or not
---   cleared-after, all-kept: the scratch in the end, whatever was written before; what is not touched
+--   cleared-after: the scratch in the end, whatever was written before; all-kept, of scope: what is not touched
 use Prim.Native.Nat.{ℕ, _+_, _≤_, _<_}
 use mathlib.Core.Path.{_≡_, refl, _∙_}
 use mathlib.Core.Bool.{Bool, true, false, false≢true, true≢false}
@@ -15,6 +15,7 @@ use lib.ListN.{length, getD, set, length-set}
 use lib.Seq.{getD-set-same, getD-set-other}
 use Rattle.scope.specs.Limits.{scratchBytes, scratchWords}
 use Rattle.scope.specs.Buffers.{Written, TailKept, Cleared}
+pub use Rattle.scope.proofs.Buffers.{all-kept}
 use Rattle.slices.specs.Parts.{Decides, Stored, Alike, AtMost}
 
 -- a test that came out true
@@ -80,7 +81,3 @@ cleared-after h k s t c = record { bytes-zero = over h s (c .bytes-zero); words-
   where
     over : {n m : ℕ} {f : ℕ → ℕ} {x y z : List ℕ} → n ≤ m → TailKept n x y → Written m f y z → Written m f x z
     over h s w = record { size = w .size ∙ s .size; inside = w .inside; outside = λ i k. w .outside i k ∙ s .outside i (omega arith) }
-
--- what is not touched is kept
-pub all-kept : (m : List ℕ) (n : ℕ) → TailKept n m m
-all-kept m n = record { size = refl; outside = λ i h. refl }

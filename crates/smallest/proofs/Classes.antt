@@ -15,10 +15,11 @@ use Rattle.scope.specs.Room.{classesOf, classOf, Below, Sound}
 use Rattle.scope.proofs.Tests.{split, level}
 use Rattle.scope.proofs.Hole.{pigeon}
 use Rattle.parts.specs.Kinds.{KindsOf}
+use Rattle.parts.proofs.ByKind.{kind-before}
 use Rattle.smallest.specs.Numbering.{ColumnsOf}
 use Rattle.smallest.specs.Classes.{Alike, Found, Led, Merged, Mapped, Classed}
 use Rattle.smallest.proofs.Arrival.{First, arrival-came}
-use Rattle.smallest.proofs.ByKind.{kind-column, kind-before}
+use Rattle.smallest.proofs.ByKind.{kind-column}
 
 -- ---- one kind more
 

@@ -15,9 +15,10 @@ use Rattle.scope.proofs.Tests.{split}
 use Rattle.scope.proofs.Run.{run-append, bytes-append, sound-closed}
 use Rattle.parts.specs.Kinds.{KindsOf}
 use Rattle.parts.specs.Refined.{PartsOf}
+use Rattle.parts.proofs.ByKind.{kind-before}
 use Rattle.smallest.specs.Numbering.{ColumnsOf, leads, Forth, Came, Swept, Numbers, smaller, Smallest}
 use Rattle.smallest.proofs.Arrival.{First, arrival-came}
-use Rattle.smallest.proofs.ByKind.{kind-column, kind-before}
+use Rattle.smallest.proofs.ByKind.{kind-column}
 use Rattle.smallest.proofs.Swept.{swept-few}
 
 module _ {a part kind least column order number into : List ℕ} {kinds n : ℕ} (s : Sound a) (f : PartsOf (machine a) part) (k : KindsOf a a kind least kinds)

@@ -1,20 +1,18 @@
 -- A room is canonical exactly if its plan changes nothing of it: the image, as a list, is canonical, so a canonical room has its bytes; and where the plan changes
 -- nothing, the image has the room's.
 --   stays-canonical, canonical-stays, stays-decides: the two directions, and the test
-use Prim.Native.Nat.{ℕ, zero, suc, _+_, _-_, _*_, _/_, _%_, _≤_, _<_}
-use mathlib.Core.Path.{_≡_, refl, sym, _∙_}
+use Prim.Native.Nat.{ℕ, _+_, _-_, _*_, _/_, _%_, _≤_, _<_}
+use mathlib.Core.Path.{_≡_, sym, _∙_}
 use mathlib.Core.Bool.{Bool}
-use mathlib.Core.Logic.{inl, inr}
-use mathlib.Core.List.{List, [], _∷_}
+use mathlib.Core.List.{List}
 use native.Mathlib.Nat.{mod-lt, div-add-mod', div-lt-iff-lt-mul}
 use native.Mathlib.Omega.{arith}
-use lib.ListN.{length, getD, length-append, List·getD-append}
-use lib.Seq.{getD-at}
+use lib.ListN.{length, getD}
 use Rattle.scope.specs.Limits.{classesAt, cellsAt, roomBytes}
 use Rattle.scope.specs.Room.{statesOf, classesOf, machine, Sound}
 use Rattle.scope.specs.Canonical.{Canonical}
 use Rattle.scope.specs.Samples.{listed}
-use Rattle.scope.proofs.Tests.{split}
+use Rattle.scope.proofs.Table.{listed-length, listed-at}
 use Rattle.scope.proofs.Room.{SameBytes, bytes-from-parts}
 use Rattle.scope.proofs.Run.{sound-closed}
 use Rattle.scope.proofs.Agree.{agree-same}
@@ -25,18 +23,6 @@ use Rattle.smallest.specs.declared.Plan.{Plan}
 use Rattle.smallest.specs.Image.{Planned, imageByte, Stays}
 use Rattle.smallest.proofs.Image.{N, is-states, is-classes, is-class, is-mark, at-cell, some-class, states-few, table-few, image-sound, image-agree, image-canonical, image-equal}
 
-length-listed : (f : ℕ → ℕ) (n : ℕ) → length (listed f n) ≡ n
-unfolding listed
-length-listed f zero = refl
-length-listed f (suc n) = length-append (listed f n) (f n ∷ []) ∙ omega (arith, length-listed f n)
-
-getD-listed : (f : ℕ → ℕ) (n i : ℕ) → i < n → getD (listed f n) i 0 ≡ f i
-unfolding listed
-getD-listed f (suc n) i h = elim (split i n) [
-  | inl k ↦ List·getD-append (listed f n) (f n ∷ []) 0 i (omega (arith, length-listed f n)) ∙ getD-listed f n i k
-  | inr k ↦ let e : i ≡ n = omega arith in rw e (getD-at (listed f n) (f n) [] 0 n (length-listed f n))
-]
-
 module _ {a : List ℕ} {p : Plan} (d : Planned a p) where
   -- the image, as a list
   m : List ℕ
@@ -44,11 +30,11 @@ module _ {a : List ℕ} {p : Plan} (d : Planned a p) where
 
   long : roomBytes ≤ length m
   unfolding m
-  long = omega (arith, length-listed (imageByte a p) roomBytes)
+  long = omega (arith, listed-length (imageByte a p) roomBytes)
 
   byte : (i : ℕ) → i < roomBytes → getD m i 0 ≡ imageByte a p i
   unfolding m
-  byte = getD-listed (imageByte a p) roomBytes
+  byte = listed-at (imageByte a p) roomBytes
 
   pub stays-canonical : Stays a p → Canonical a
   stays-canonical t = canonical-moved m a (d .sound .long) bytes (image-canonical d m long byte)

@@ -3,7 +3,7 @@ use Prim.Native.Nat.{_≤_, _-_}
 use mathlib.Core.Path.{_≡_}
 use native.Mathlib.Omega.{arith}
 use borrow.Author.Needs.{needs}
-use Rattle.parts.proofs.Names.{is, isnt}
+use Rattle.slices.proofs.Laws.{holds, fails}
 use Rattle.parts.proofs.ByKind.{Led, led-more, led-all, led-apart}
 use Rattle.parts.proofs.agree.Statement.{statement}
 use Rattle.parts.proofs.agree.Tie as tie
@@ -46,7 +46,7 @@ element-copy-out-if1-2 c = let d = c .before .before .before .before .before .be
 returns : tie.Need-returns Inv-loop μ-loop
 returns c = let y = c .before .before .before .before .cell in
     let z = c .before .before .before .cell2 in
-    isnt (led-apart _ _ _ _ _ _ _ _ _ (y .result) (z .result) (y .ensures .0) (z .ensures .0) (c .before .before .before .before .before .before .before .before .before .pre .1 .0) (c .before .before .before .before .before .loop-test .taken) (c .if1 .taken))
+    fails (led-apart _ _ _ _ _ _ _ _ _ (y .result) (z .result) (y .ensures .0) (z .ensures .0) (c .before .before .before .before .before .before .before .before .before .pre .1 .0) (c .before .before .before .before .before .loop-test .taken) (c .if1 .taken))
 
 add-i : tie.Need-add-i Inv-loop μ-loop
 add-i c = search needs
@@ -63,7 +63,7 @@ loop-again c = let s = c .before .before .before .before .before .before .before
 returns-2 : tie.Need-returns-2 Inv-loop μ-loop
 returns-2 c = let d = c .before .before .before .before in
     let e : c .before .loop .i ≡ d .args .count = omega arith in
-    is (led-all _ _ _ _ _ _ _ _ (d .pre .1 .0) (d .pre .1 .1 .2) (rw e at (c .before .loop .inv .1)))
+    holds (led-all _ _ _ _ _ _ _ _ (d .pre .1 .0) (d .pre .1 .1 .2) (rw e at (c .before .loop .inv .1)))
 
 pub agree-spec : {M : Type 1} → statement M
 agree-spec = tie.close (tie.spec Inv-loop μ-loop loop-holds cell-requires cell-requires-2 mul-if1 element-copy-out-if1 mul-if1-2 element-copy-out-if1-2 returns add-i loop-less loop-again returns-2)
