@@ -34,9 +34,9 @@ fn is_lent(left: &[u8], right: &[u8], word: &[u8], bytes: &[u8], words: &[u64]) 
 
 // The first round after which p and q, which lie in two parts, are not together: the length of the shortest string that tells them apart.
 fn distance(
-    part: &[u16; 256],
-    parent: &[u16; 256],
-    born: &[u16; 256],
+    part: &[u16; parts::STATES],
+    parent: &[u16; parts::STATES],
+    born: &[u16; parts::STATES],
     p: usize,
     q: usize,
     rounds: usize,
@@ -63,9 +63,9 @@ fn distance(
 fn spell(
     left: &[u8],
     right: &[u8],
-    part: &[u16; 256],
-    parent: &[u16; 256],
-    born: &[u16; 256],
+    part: &[u16; parts::STATES],
+    parent: &[u16; parts::STATES],
+    born: &[u16; parts::STATES],
     long: usize,
     word: &mut [u8],
 )

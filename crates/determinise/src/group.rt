@@ -11,7 +11,7 @@ use scope::Machine;
 
 // The class of each byte value, and how many classes there are.
 pub struct Groups {
-    pub map: [u8; 256],
+    pub map: [u8; Machine::BYTES],
     pub answer: Counted,
 }
 
@@ -25,16 +25,16 @@ pub fn bit(bytes: &[u8], p: usize, b: usize) -> usize
 }
 
 // The classes of `old`, split by the position p + 1. A class and a bit make a key; `names` has for each key 1 more than its class, 0 if it has none yet.
-fn split(bytes: &[u8], p: usize, old: [u8; 256]) -> Groups
+fn split(bytes: &[u8], p: usize, old: [u8; Machine::BYTES]) -> Groups
     requires { ⌜ p * byteSet + byteSet ≤ length (now bytes) ⌝ }
     requires { ⌜ Below old ⌝ }
     ensures { λ r. ⌜ GroupAnswer (Key (now (bytes .entry)) p old) (r .map) (r .answer) ⌝ }
 {
     let mut names = [0u8; 2 * Machine::CLASSES];
-    let mut map = [0u8; 256];
+    let mut map = [0u8; Machine::BYTES];
     let mut k: usize = 0;
     let mut b: usize = 0;
-    while b < 256 {
+    while b < Machine::BYTES {
         let key = 2 * (old[b] as usize) + bit(bytes, p, b);
         let name = names[key];
         if name == 0 {
@@ -63,7 +63,7 @@ pub fn group(bytes: &[u8], count: usize) -> Groups
     requires { ⌜ (count ≤ positionLimit) × (count * byteSet ≤ length (now bytes)) ⌝ }
     ensures { λ r. ⌜ GroupAnswer (Like (now (bytes .entry)) count) (r .map) (r .answer) ⌝ }
 {
-    let mut map = [0u8; 256];
+    let mut map = [0u8; Machine::BYTES];
     let mut k: usize = 1;
     let mut p: usize = 0;
     while p < count {

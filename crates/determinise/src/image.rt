@@ -1,8 +1,8 @@
 // The room image: its head, the rows, the marks.
 ghost use mathlib.Core.Path.{_≡_};
 ghost use Prim.Native.Nat.{_+_, _-_, _*_, _≤_};
-ghost use lib.ListN.{length, getD};
-ghost use Rattle.scope.specs.Limits.{classLimit, stateLimit, classesAt, marksAt, roomBytes, setWords};
+ghost use lib.ListN.{length};
+ghost use Rattle.scope.specs.Limits.{classLimit, stateLimit, marksAt, roomBytes, setWords};
 ghost use Rattle.slices.specs.Parts.{Stored};
 ghost use Rattle.sets.specs.Value.{value};
 ghost use Rattle.determinise.specs.Layout.{setsAt, setOf};
@@ -15,25 +15,13 @@ use crate::reach;
 use scope::Machine;
 use sets::Set;
 
-// Writes the class of each byte value.
-fn write_map(image: &mut [u8], map: [u8; 256])
-    requires { ⌜ roomBytes ≤ length (now image) ⌝ }
-    ensures { λ _. ⌜ Stored (now (image .entry)) (now (image .exit)) classesAt marksAt (λ i. getD map (i - classesAt) 0) ⌝ }
-{
-    let mut i = Machine::CLASSES_AT;
-    while i < Machine::MARKS_AT {
-        image[i] = map[i - Machine::CLASSES_AT];
-        i += 1;
-    }
-}
-
 // Writes k and the classes, and zeros after them.
-fn write_head(image: &mut [u8], map: [u8; 256], k: usize)
+fn write_head(image: &mut [u8], map: [u8; Machine::BYTES], k: usize)
     requires { ⌜ (roomBytes ≤ length (now image)) × (k ≤ classLimit) ⌝ }
     ensures { λ _. ⌜ Headed (now (image .entry)) (now (image .exit)) map k ⌝ }
 {
     slices::fill(image, 0, Machine::ROOM, 0);
-    write_map(image, map);
+    slices::write_classes(image, &map);
     image[1] = k as u8;
 }
 
@@ -74,7 +62,7 @@ pub fn determinise(
     image: &mut [u8],
     words: &mut [u64],
     masks: &[u64],
-    map: [u8; 256],
+    map: [u8; Machine::BYTES],
     k: usize,
     finals: Set,
 ) -> Built

@@ -31,7 +31,7 @@ fn byte_mask(bytes: &[u8], count: usize, b: usize) -> Set
 pub fn class_masks(
     bytes: &[u8],
     count: usize,
-    map: [u8; 256],
+    map: [u8; Machine::BYTES],
 ) -> [u64; Machine::CLASSES * Machine::SET_WORDS]
     requires { ⌜ (count ≤ positionLimit) × (count * byteSet ≤ length (now bytes)) ⌝ }
     requires { ⌜ ((k : ℕ) × Grouped (Like (now bytes) count) map k) ⌝ }
@@ -40,7 +40,7 @@ pub fn class_masks(
     let mut masks = [0u64; Machine::CLASSES * Machine::SET_WORDS];
     let mut n: usize = 0;
     let mut b: usize = 0;
-    while b < 256 {
+    while b < Machine::BYTES {
         let class = map[b] as usize;
         if class == n {
             sets::store(&mut masks, class, byte_mask(bytes, count, b));

@@ -12,7 +12,7 @@ ghost use Rattle.fields.specs.Image.{Unpacks};
 mod packing; // field after field, into whole bytes
 mod unpacking; // field after field, from two bytes at a time
 
-// The form: the number it begins with, the bits of each kind of field, how many classes it lists, and the bits where classes and marks begin.
+// The form: the number it begins with, the bits of each kind of field, and the bits where classes and marks begin.
 const FORM: usize = 1;
 
 const FORM_BITS: usize = 4;
@@ -23,11 +23,9 @@ const CLASS_BITS: usize = 6;
 
 const MARK_BITS: usize = 1;
 
-const BYTE_VALUES: usize = 256;
-
 const CLASSES_BIT: usize = FORM_BITS + STATE_BITS + CLASS_BITS;
 
-const MARKS_BIT: usize = CLASSES_BIT + BYTE_VALUES * CLASS_BITS;
+const MARKS_BIT: usize = CLASSES_BIT + scope::Machine::BYTES * CLASS_BITS;
 
 // The lowest bits of x.
 fn low(x: usize, count: usize) -> usize

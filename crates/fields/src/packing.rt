@@ -4,7 +4,6 @@ ghost use Prim.Native.Nat.{_+_, _*_, _^_, _<_};
 ghost use Rattle.scope.proofs.Laid.{endBit};
 ghost use Rattle.fields.specs.Fields.{roomBit, classesBit};
 ghost use Rattle.fields.specs.Filled.{Fits, Filled, Ready, Puts, Passes, Due, Ends};
-use super::BYTE_VALUES;
 use super::CLASS_BITS;
 use super::FORM;
 use super::FORM_BITS;
@@ -102,7 +101,7 @@ pub(crate) fn put_all(out: &mut [u8], room: &[u8]) -> Filling
         room,
         head,
         Machine::CLASSES_AT,
-        BYTE_VALUES,
+        Machine::BYTES,
         CLASS_BITS,
     );
     let marks = put_part(out, room, classes, Machine::MARKS_AT, n, MARK_BITS);

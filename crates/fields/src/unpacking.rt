@@ -6,7 +6,6 @@ ghost use Rattle.scope.specs.Buffers.{TailKept};
 ghost use Rattle.scope.proofs.Fields.{Holds};
 ghost use Rattle.fields.specs.Fields.{formBit};
 ghost use Rattle.fields.specs.Image.{Named, Shaped, Judged, Took, Blank, Image};
-use super::BYTE_VALUES;
 use super::CLASS_BITS;
 use super::CLASSES_BIT;
 use super::FORM;
@@ -92,7 +91,7 @@ pub(crate) fn take_all(form: &[u8], room: &mut [u8], n: usize, k: usize)
         room,
         CLASSES_BIT,
         Machine::CLASSES_AT,
-        BYTE_VALUES,
+        Machine::BYTES,
         CLASS_BITS,
     );
     take_part(form, room, MARKS_BIT, Machine::MARKS_AT, n, MARK_BITS);

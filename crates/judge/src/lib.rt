@@ -2,7 +2,7 @@
 ghost use Rattle.judge.specs.Judges.{Judges};
 use reading::Reading;
 
-mod bytes;
+pub mod bytes;
 mod reading;
 
 // What a text is judged: legal, or the first fault in the order of judgement, with its place.

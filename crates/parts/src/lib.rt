@@ -9,7 +9,7 @@ use scope::Machine;
 ghost use mathlib.Core.Path.{_≡_};
 ghost use Prim.Native.Nat.{_+_, _*_, _<_};
 ghost use lib.ListN.{length, getD};
-ghost use Rattle.scope.specs.Limits.{byteValues, classLimit};
+ghost use Rattle.scope.specs.Limits.{byteValues, classLimit, stateLimit};
 ghost use Rattle.scope.specs.Room.{statesOf, Sound};
 ghost use Rattle.scope.specs.Rounds.{Together};
 ghost use Rattle.slices.specs.Parts.{Decides};
@@ -19,8 +19,8 @@ ghost use Rattle.parts.specs.Parts.{First, Named, Renamed, Alike, Agree}
 ghost use Rattle.parts.specs.Round.{Chain, Opened, Births};
 ghost use Rattle.parts.specs.Refined.{Refined, Climbs, Climbed};
 
-// How many values a byte has, and how many pairs of classes there can be.
-const BYTES: usize = 256;
+// The most states that two rooms have, and the most pairs of classes.
+pub const STATES: usize = Machine::STATES + Machine::STATES;
 
 const PAIRS: usize = Machine::CLASSES * Machine::CLASSES;
 
@@ -40,8 +40,8 @@ pub fn step(a: &[u8], b: &[u8], q: usize, x: u8) -> usize
 
 // The kinds of the bytes by two rooms: the kind of each byte, and the least byte of each kind.
 pub struct ByteKinds {
-    pub kind: [u8; 256],
-    pub least: [u8; 256],
+    pub kind: [u8; Machine::BYTES],
+    pub least: [u8; Machine::BYTES],
     pub count: usize,
 }
 
@@ -59,12 +59,12 @@ pub fn kinds(a: &[u8], b: &[u8]) -> ByteKinds
     requires { ⌜ Sound (now a) × Sound (now b) ⌝ }
     ensures { λ r. ⌜ KindsOf (now (a .entry)) (now (b .entry)) (r .kind) (r .least) (r .count) ⌝ }
 {
-    let mut kind = [0u8; 256];
-    let mut least = [0u8; 256];
+    let mut kind = [0u8; Machine::BYTES];
+    let mut least = [0u8; Machine::BYTES];
     let mut table = [0u8; PAIRS];
     let mut count: usize = 1;
     let mut x: usize = 1;
-    while x < BYTES {
+    while x < Machine::BYTES {
         let p = pair(a, b, x);
         let mut i = table[p];
         let y = least[i as usize] as usize;
@@ -86,8 +86,8 @@ pub fn kinds(a: &[u8], b: &[u8]) -> ByteKinds
 
 // The class of each kind in a and in b.
 struct Columns {
-    left: [u8; 256],
-    right: [u8; 256],
+    left: [u8; Machine::BYTES],
+    right: [u8; Machine::BYTES],
     count: usize,
 }
 
@@ -99,8 +99,8 @@ fn classes(a: &[u8], b: &[u8]) -> Columns
     let z = kinds(a, b);
     let least = z.least;
     let count = z.count;
-    let mut left = [0u8; 256];
-    let mut right = [0u8; 256];
+    let mut left = [0u8; Machine::BYTES];
+    let mut right = [0u8; Machine::BYTES];
     let mut i: usize = 0;
     while i < count {
         let x = least[i] as usize;
@@ -130,11 +130,11 @@ fn mark(a: &[u8], b: &[u8], q: usize) -> u8
 }
 
 // Round 0: the parts by mark.
-fn begin(a: &[u8], b: &[u8], n: usize) -> [u16; 256]
+fn begin(a: &[u8], b: &[u8], n: usize) -> [u16; STATES]
     requires { ⌜ Side (now a) (now b) n ⌝ }
-    ensures { λ r. ⌜ (length r ≡ 256) × Named (Together (side (now (a .entry)) (now (b .entry)) n) 0) r n ⌝ }
+    ensures { λ r. ⌜ (length r ≡ stateLimit + stateLimit) × Named (Together (side (now (a .entry)) (now (b .entry)) n) 0) r n ⌝ }
 {
-    let mut part = [0u16; 256];
+    let mut part = [0u16; STATES];
     let m = mark(a, b, 0);
     let mut other: usize = 0;
     let mut q: usize = 0;
@@ -151,7 +151,14 @@ fn begin(a: &[u8], b: &[u8], n: usize) -> [u16; 256]
 }
 
 // The state after q on the bytes of the kind i.
-fn cell(a: &[u8], b: &[u8], left: &[u8; 256], right: &[u8; 256], q: usize, i: usize) -> usize
+fn cell(
+    a: &[u8],
+    b: &[u8],
+    left: &[u8; Machine::BYTES],
+    right: &[u8; Machine::BYTES],
+    q: usize,
+    i: usize,
+) -> usize
     requires { ⌜ Sound (now a) × Sound (now b) ⌝ }
     requires { ⌜ (q < statesOf (now a) + statesOf (now b)) × (i < byteValues) × Used (now a) (now b) (now left) (now right) i ⌝ }
     ensures { λ r. ⌜ (r ≡ cellIn (now (a .entry)) (now (b .entry)) q (getD (now (left .entry)) i 0) (getD (now (right .entry)) i 0)) × (r < statesOf (now (a .entry)) + statesOf (now (b .entry))) ⌝ }
@@ -168,10 +175,10 @@ fn cell(a: &[u8], b: &[u8], left: &[u8; 256], right: &[u8; 256], q: usize, i: us
 fn agree(
     a: &[u8],
     b: &[u8],
-    left: &[u8; 256],
-    right: &[u8; 256],
+    left: &[u8; Machine::BYTES],
+    right: &[u8; Machine::BYTES],
     count: usize,
-    part: &[u16; 256],
+    part: &[u16; STATES],
     p: usize,
     q: usize,
 ) -> bool
@@ -196,11 +203,11 @@ fn agree(
 fn place(
     a: &[u8],
     b: &[u8],
-    left: &[u8; 256],
-    right: &[u8; 256],
+    left: &[u8; Machine::BYTES],
+    right: &[u8; Machine::BYTES],
     count: usize,
-    part: &[u16; 256],
-    link: &[u16; 256],
+    part: &[u16; STATES],
+    link: &[u16; STATES],
     q: usize,
 ) -> usize
     requires { ⌜ Sound (now a) × Sound (now b) ⌝ }
@@ -227,25 +234,25 @@ fn place(
 fn round(
     a: &[u8],
     b: &[u8],
-    left: &[u8; 256],
-    right: &[u8; 256],
+    left: &[u8; Machine::BYTES],
+    right: &[u8; Machine::BYTES],
     count: usize,
-    part: &[u16; 256],
-    next: &mut [u16; 256],
-    parent: &mut [u16; 256],
-    born: &mut [u16; 256],
+    part: &[u16; STATES],
+    next: &mut [u16; STATES],
+    parent: &mut [u16; STATES],
+    born: &mut [u16; STATES],
     n: usize,
     r: u16,
 ) -> bool
     requires { ⌜ Side (now a) (now b) n ⌝ }
     requires { ⌜ ColumnsOf (now a) (now b) (now left) (now right) count ⌝ }
     requires { ⌜ Named (Alike (now part)) (now part) n ⌝ }
-    requires { ⌜ (length (now next) ≡ 256) × (length (now parent) ≡ 256) × (length (now born) ≡ 256) ⌝ }
+    requires { ⌜ (length (now next) ≡ stateLimit + stateLimit) × (length (now parent) ≡ stateLimit + stateLimit) × (length (now born) ≡ stateLimit + stateLimit) ⌝ }
     ensures { λ z. ⌜ Renamed (Agree ((both (now (a .entry)) (now (b .entry))) .next) (now (part .entry))) (now (next .entry)) (now (next .exit)) n ⌝ }
     ensures { λ z. ⌜ Births (now (part .entry)) (now (next .exit)) (now (parent .entry)) (now (parent .exit)) (now (born .entry)) (now (born .exit)) r n ⌝ }
     ensures { λ z. ⌜ Decides z (Opened (now (part .entry)) (now (next .exit)) n) ⌝ }
 {
-    let mut link = [0u16; 256];
+    let mut link = [0u16; STATES];
     let mut opened = false;
     let mut q: usize = 0;
     while q < n {
@@ -269,9 +276,9 @@ fn round(
 
 // The part of each state when nothing splits any more; for each part its parent and the round it was born in; and the number of rounds.
 pub struct Parts {
-    pub part: [u16; 256],
-    pub parent: [u16; 256],
-    pub born: [u16; 256],
+    pub part: [u16; STATES],
+    pub parent: [u16; STATES],
+    pub born: [u16; STATES],
     pub rounds: usize,
 }
 
@@ -279,16 +286,16 @@ pub struct Parts {
 pub fn refine(a: &[u8], b: &[u8], n: usize) -> Parts
     requires { ⌜ Side (now a) (now b) n ⌝ }
     ensures { λ r. ⌜ Refined (side (now (a .entry)) (now (b .entry)) n) (r .part) (r .parent) (r .born) (r .rounds) ⌝ }
-    ensures { λ r. ⌜ (length (r .part) ≡ 256) × (length (r .parent) ≡ 256) × (length (r .born) ≡ 256) ⌝ }
+    ensures { λ r. ⌜ (length (r .part) ≡ stateLimit + stateLimit) × (length (r .parent) ≡ stateLimit + stateLimit) × (length (r .born) ≡ stateLimit + stateLimit) ⌝ }
 {
     let c = classes(a, b);
     let left = c.left;
     let right = c.right;
     let count = c.count;
     let mut part = begin(a, b, n);
-    let mut next = [0u16; 256];
-    let mut parent = [0u16; 256];
-    let mut born = [0u16; 256];
+    let mut next = [0u16; STATES];
+    let mut parent = [0u16; STATES];
+    let mut born = [0u16; STATES];
     let mut r: usize = 0;
     while round(
         a,
@@ -315,7 +322,13 @@ pub fn refine(a: &[u8], b: &[u8], n: usize) -> Parts
 }
 
 // The part of q after r rounds.
-pub fn climb(part: &[u16; 256], parent: &[u16; 256], born: &[u16; 256], q: usize, r: usize) -> usize
+pub fn climb(
+    part: &[u16; STATES],
+    parent: &[u16; STATES],
+    born: &[u16; STATES],
+    q: usize,
+    r: usize,
+) -> usize
     requires { ⌜ Climbs (now part) (now parent) (now born) q r ⌝ }
     ensures { λ x. ⌜ Climbed (now (part .entry)) (now (parent .entry)) (now (born .entry)) q r x ⌝ }
 {

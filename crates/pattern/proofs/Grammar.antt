@@ -2,7 +2,7 @@
 -- no test of the grammar.
 --   inside: a place inside of the text
 --   escape-in .. reads-in: what is read ends inside of the text
---   escape-coded, escape-plain, class-escape, class-bare: the first bytes of an escape, and of a byte in a class, decide how it is read
+--   coded-in, escape-coded, escape-plain, class-escape, class-bare: the first bytes of an escape, and of a byte in a class, decide how it is read
 --   not-star, not-stop: the first byte of what the grammar reads
 use Prim.Native.Nat.{ℕ, _+_, _*_, _<_, _≤_}
 use mathlib.Core.Path.{_≡_, refl, sym, ap, _∙_}
@@ -11,11 +11,12 @@ use mathlib.Core.List.{List}
 use mathlib.Core.Logic.{inl, inr}
 use native.Mathlib.Omega.{arith}
 use lib.Dec.{eqb}
-use lib.ListN.{length, List·getD-eq-default}
+use lib.ListN.{length, getD, List·getD-eq-default}
 use Rattle.scope.specs.Bytes.{ByteSet, byte}
 use Rattle.scope.specs.Tree.{Item, Leaf, Tree}
 use Rattle.scope.specs.Grammar.{literal, escapable, classLiteral, hex, Escape, plain, coded, ClassByte, bare, escaped, OneItem, one-byte, low-high, Items, last-item, more-items, Single, a-dot, a-literal, an-escape, a-class, Level, Reads, single, no-byte, no-word, in-group, one-atom, one-star, one-factor, next-factor, one-branch, next-branch}
 use Rattle.scope.proofs.Tests.{split, or, equals}
+use Rattle.scope.proofs.Lists.{any-default}
 use Rattle.scope.proofs.Grammar.{other, escape-head}
 use Rattle.pattern.specs.Tails.{stops}
 
@@ -66,12 +67,20 @@ module _ {s : List ℕ} where
 -- ---- how a byte is read
 
 module _ {s : List ℕ} where
-  -- `\x`: two digits
-  pub escape-coded : {i j b a x y h l : ℕ} → Escape s i j b → a ≡ byte s (i + 1) → a ≡ 120 → x ≡ byte s (i + 2) → h ≡ hex x → y ≡ byte s (i + 3) → l ≡ hex y
+  -- `\x`: two digits stand inside of the text
+  pub coded-in : {i j b a : ℕ} → Escape s i j b → a ≡ byte s (i + 1) → a ≡ 120 → i + 3 < length s
+  unfolding escapable hex
+  coded-in (plain h k) p e = absurd (other escapable k refl (sym p ∙ e))
+  coded-in {i} (coded h k l m) p e = inside s (i + 3) (λ z. omega (arith, ap hex z))
+
+  -- their values are the byte
+  pub escape-coded : {i j b a h l : ℕ} → Escape s i j b → a ≡ byte s (i + 1) → a ≡ 120 → h ≡ hex (getD s (i + 2) 0) → l ≡ hex (getD s (i + 3) 0)
       → (h < 16) × (l < 16) × Escape s i (i + 4) (h * 16 + l)
   unfolding escapable
-  escape-coded (plain h k) p e p₂ e₂ p₃ e₃ = absurd (other escapable k refl (sym p ∙ e))
-  escape-coded (coded h k l m) p e p₂ e₂ p₃ e₃ = rw (e₂, p₂, e₃, p₃) (l, m, coded h k l m)
+  escape-coded (plain h k) p e e₂ e₃ = absurd (other escapable k refl (sym p ∙ e))
+  escape-coded {i} (coded h k l m) p e e₂ e₃ =
+      let n = coded-in (coded h k l m) p e in
+      rw (e₂, any-default s (i + 2) 0 256 (omega arith), e₃, any-default s (i + 3) 0 256 n) (l, m, coded h k l m)
 
   -- another escape: that byte
   pub escape-plain : {i j b a : ℕ} → Escape s i j b → a ≡ byte s (i + 1) → (a ≡ 120 → ⊥) → (a ≡ 256 → ⊥) × Escape s i (i + 2) a

@@ -4,7 +4,7 @@ ghost use mathlib.Core.Bool.{not};
 ghost use Prim.Native.Nat.{_<_, _≤_};
 ghost use lib.ListN.{length};
 ghost use Rattle.scope.specs.Bytes.{byte};
-ghost use Rattle.scope.specs.Grammar.{hex, Escape, ClassByte};
+ghost use Rattle.scope.specs.Grammar.{Escape, ClassByte};
 ghost use Rattle.scope.specs.Limits.{byteValues, patternLimit};
 ghost use Rattle.pattern.specs.Parts.{Backslash, Some};
 ghost use Rattle.pattern.specs.Tails.{stops};
@@ -78,44 +78,6 @@ pub fn escaped(text: &[u8], at: usize) -> usize
     }
 }
 
-// Where the hex digits begin and end.
-const DIGITS: usize = b'0' as usize;
-
-const DIGITS_END: usize = b'9' as usize + 1;
-
-const CAPITALS: usize = b'A' as usize;
-
-const CAPITALS_END: usize = b'F' as usize + 1;
-
-const SMALLS: usize = b'a' as usize;
-
-const SMALLS_END: usize = b'f' as usize + 1;
-
-// The value of a hex digit, 16 if b is none.
-fn digit(b: usize) -> usize
-    ensures { λ r. ⌜ (r ≡ hex b) × (r ≤ 16) ⌝ }
-{
-    if b < DIGITS {
-        return 16;
-    }
-    if b < DIGITS_END {
-        return b - DIGITS;
-    }
-    if b < CAPITALS {
-        return 16;
-    }
-    if b < CAPITALS_END {
-        return b - CAPITALS + 10;
-    }
-    if b < SMALLS {
-        return 16;
-    }
-    if b < SMALLS_END {
-        return b - SMALLS + 10;
-    }
-    16
-}
-
 // The byte that an escape is.
 pub fn escape(text: &[u8], at: usize) -> Taken
     requires { ⌜ Some Escape (now text) at ⌝ }
@@ -123,11 +85,11 @@ pub fn escape(text: &[u8], at: usize) -> Taken
 {
     let b = byte_at(text, at + 1);
     if b == CODE {
-        let high = digit(byte_at(text, at + 2));
-        let low = digit(byte_at(text, at + 3));
+        let high = judge::bytes::hex_value(text[at + 2]);
+        let low = judge::bytes::hex_value(text[at + 3]);
         Taken {
             next: at + 4,
-            byte: (high * 16 + low) as u8,
+            byte: high * 16 + low,
         }
     } else {
         Taken {

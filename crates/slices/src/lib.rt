@@ -1,6 +1,7 @@
-// What every layer needs of a lent buffer: fill, copy, compare, the greatest byte; each with a contract that says every element.
-ghost use Prim.Native.Nat.{_≤_};
+// What every layer needs of a lent buffer: fill, copy, compare, the greatest byte, the classes of a room; each with a contract that says every element.
+ghost use Prim.Native.Nat.{_-_, _≤_};
 ghost use lib.ListN.{length, getD};
+ghost use Rattle.scope.specs.Limits.{classesAt, marksAt};
 ghost use Rattle.scope.specs.Buffers.{Written, Scratch, Lent, Cleared};
 ghost use Rattle.slices.specs.Parts.{Decides, Stored, Alike, Greatest};
 
@@ -36,6 +37,18 @@ pub fn copy(from: &[u8], to: &mut [u8], n: usize)
     let mut i: usize = 0;
     while i < n {
         to[i] = from[i];
+        i += 1;
+    }
+}
+
+// Writes the class of each byte into a machine room.
+pub fn write_classes(room: &mut [u8], class: &[u8; scope::Machine::BYTES])
+    requires { ⌜ marksAt ≤ length (now room) ⌝ }
+    ensures { λ _. ⌜ Stored (now (room .entry)) (now (room .exit)) classesAt marksAt (λ i. getD (now (class .entry)) (i - classesAt) 0) ⌝ }
+{
+    let mut i = scope::Machine::CLASSES_AT;
+    while i < scope::Machine::MARKS_AT {
+        room[i] = class[i - scope::Machine::CLASSES_AT];
         i += 1;
     }
 }

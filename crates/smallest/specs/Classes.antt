@@ -1,8 +1,10 @@
 -- The classes of the smallest machine: kinds of bytes whose columns every state sends alike, numbered by their smallest byte.
---   Alike: two columns of the room lead each state to the same state
---   Found: the first class that has a column
---   Merged: the classes of the first kinds
---   Mapped, Classed: the classes of the bytes
+--   Alike a order into n u v: the columns u and v of the room a lead each of the n states to the same state
+--   Found a order into leader n k u c: c is the first of the k classes whose column is alike to u, or k if there is none
+--   Led column sort leader e c: of the first e kinds, the first one of the class c
+--   Merged a order into column sort leader n k e: the k classes of the first e kinds
+--   Mapped kind sort class: each byte has the class of its kind
+--   Classed a order into class leader n k: the k classes of the bytes, numbered by their smallest byte
 use Prim.Native.Nat.{ℕ, _≤_, _<_}
 use mathlib.Core.Path.{_≡_}
 use mathlib.Core.List.{List}

@@ -1,6 +1,10 @@
 -- The room of the smallest machine, byte by byte.
 --   Planned a p: p has the smallest machine of the room a, its states and classes numbered
+--   tableCell a order into leader q c: the cell of its state q and its class c
+--   tableByte a order into leader k i: the byte i of its room, where that is a cell, of k classes
 --   imageByte a p i: the byte i of its room
+--   SameOrder order n: each of the first n numbers stands for itself
+--   SameClasses a class e: the classes of the bytes below e are the room's
 --   Stays a p: p changes nothing of the room a
 use Prim.Native.Nat.{ℕ, _+_, _-_, _*_, _/_, _%_, _<_}
 use mathlib.Core.Path.{_≡_}

@@ -25,8 +25,8 @@ pub struct Plan {
     pub order: [u8; Machine::STATES],
     pub into: [u8; Machine::STATES],
     pub classes: usize,
-    pub class: [u8; 256],
-    pub leader: [u8; 256],
+    pub class: [u8; Machine::BYTES],
+    pub leader: [u8; Machine::BYTES],
 }
 
 // The smallest machine of a sound room.
@@ -80,10 +80,10 @@ pub fn is_canonical(room: &[u8]) -> bool
 pub fn minimise(from: &[u8], to: &mut [u8], bytes: &mut [u8], words: &mut [u64]) -> Minimised
     ensures { λ r. ⌜ Minimises (now (from .entry)) (now (to .entry)) (now (to .exit)) (now (bytes .entry)) (now (bytes .exit)) (now (words .entry)) (now (words .exit)) (minimisedNumber r) ⌝ }
 {
-    if from.len() < Machine::ROOM || to.len() < Machine::ROOM {
+    if from.len() < Machine::ROOM {
         return Minimised::Room;
     }
-    if bytes.len() < Machine::SCRATCH_BYTES || words.len() < Machine::SCRATCH_WORDS {
+    if !slices::is_lent(to, bytes, words) {
         return Minimised::Room;
     }
     slices::clear(bytes, words);

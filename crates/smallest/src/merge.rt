@@ -41,7 +41,7 @@ fn find(
     order: &[u8; Machine::STATES],
     into: &[u8; Machine::STATES],
     n: usize,
-    leader: &[u8; 256],
+    leader: &[u8; Machine::BYTES],
     k: usize,
     u: u8,
 ) -> usize
@@ -61,8 +61,8 @@ fn find(
 
 // The class of each kind, the column of each class, and how many classes there are.
 pub struct Classes {
-    pub sort: [u8; 256],
-    pub leader: [u8; 256],
+    pub sort: [u8; Machine::BYTES],
+    pub leader: [u8; Machine::BYTES],
     pub count: usize,
 }
 
@@ -72,15 +72,15 @@ pub fn merge(
     order: &[u8; Machine::STATES],
     into: &[u8; Machine::STATES],
     n: usize,
-    column: &[u8; 256],
+    column: &[u8; Machine::BYTES],
     kinds: usize,
 ) -> Classes
     requires { ⌜ Rows (now from) (now order) n ⌝ }
     requires { ⌜ (kinds ≤ byteValues) × Below (now column) 0 kinds (classesOf (now from)) ⌝ }
     ensures { λ r. ⌜ Merged (now (from .entry)) (now (order .entry)) (now (into .entry)) (now (column .entry)) (r .sort) (r .leader) n (r .count) kinds ⌝ }
 {
-    let mut sort = [0u8; 256];
-    let mut leader = [0u8; 256];
+    let mut sort = [0u8; Machine::BYTES];
+    let mut leader = [0u8; Machine::BYTES];
     let mut count: usize = 0;
     let mut j: usize = 0;
     while j < kinds {
@@ -101,13 +101,13 @@ pub fn merge(
 }
 
 // The class of each byte: that of its kind.
-pub fn of_bytes(kind: &[u8; 256], sort: &[u8; 256]) -> [u8; 256]
+pub fn of_bytes(kind: &[u8; Machine::BYTES], sort: &[u8; Machine::BYTES]) -> [u8; Machine::BYTES]
     requires { ⌜ Below (now kind) 0 byteValues byteValues ⌝ }
     ensures { λ r. ⌜ Mapped (now (kind .entry)) (now (sort .entry)) r ⌝ }
 {
-    let mut class = [0u8; 256];
+    let mut class = [0u8; Machine::BYTES];
     let mut x: usize = 0;
-    while x < 256 {
+    while x < Machine::BYTES {
         class[x] = sort[kind[x] as usize];
         x += 1;
     }

@@ -7,12 +7,12 @@ ghost use Rattle.scope.specs.Room.{Below, Sound};
 ghost use Rattle.smallest.specs.Numbering.{ColumnsOf, Ready, Swept, Numbers, Numbered};
 
 // The class of the least byte of each kind.
-pub fn columns(from: &[u8], least: &[u8; 256], kinds: usize) -> [u8; 256]
+pub fn columns(from: &[u8], least: &[u8; Machine::BYTES], kinds: usize) -> [u8; Machine::BYTES]
     requires { ⌜ Sound (now from) ⌝ }
     requires { ⌜ (kinds ≤ byteValues) × Below (now least) 0 kinds byteValues ⌝ }
     ensures { λ r. ⌜ ColumnsOf (now (from .entry)) (now (least .entry)) r kinds ⌝ }
 {
-    let mut column = [0u8; 256];
+    let mut column = [0u8; Machine::BYTES];
     let mut j: usize = 0;
     while j < kinds {
         column[j] = from[Machine::CLASSES_AT + least[j] as usize];
@@ -24,8 +24,8 @@ pub fn columns(from: &[u8], least: &[u8; 256], kinds: usize) -> [u8; 256]
 // Numbers the parts to which the state q leads that have no number yet; how many have one then.
 fn sweep(
     from: &[u8],
-    part: &[u16; 256],
-    column: &[u8; 256],
+    part: &[u16; parts::STATES],
+    column: &[u8; Machine::BYTES],
     kinds: usize,
     q: usize,
     order: &mut [u8; Machine::STATES],
@@ -52,7 +52,11 @@ fn sweep(
 }
 
 // The number of the part of each of the first n states.
-fn numbers(part: &[u16; 256], number: &[u16; Machine::STATES], n: usize) -> [u8; Machine::STATES]
+fn numbers(
+    part: &[u16; parts::STATES],
+    number: &[u16; Machine::STATES],
+    n: usize,
+) -> [u8; Machine::STATES]
     requires { ⌜ n ≤ stateLimit ⌝ }
     requires { ⌜ Below (now part) 0 n n × Below (now number) 0 n byteValues ⌝ }
     ensures { λ r. ⌜ Numbers (now (part .entry)) (now (number .entry)) r n ⌝ }
@@ -74,7 +78,12 @@ pub struct States {
 }
 
 // Numbers the parts on first arrival.
-pub fn arrivals(from: &[u8], part: &[u16; 256], column: &[u8; 256], kinds: usize) -> States
+pub fn arrivals(
+    from: &[u8],
+    part: &[u16; parts::STATES],
+    column: &[u8; Machine::BYTES],
+    kinds: usize,
+) -> States
     requires { ⌜ Ready (now from) (now part) (now column) kinds ⌝ }
     ensures { λ r. ⌜ Numbered (now (from .entry)) (now (part .entry)) (now (column .entry)) (r .order) (r .into) kinds (r .count) ⌝ }
 {

@@ -3,7 +3,7 @@ use crate::Plan;
 use scope::Machine;
 ghost use Prim.Native.Nat.{_≤_};
 ghost use lib.ListN.{length};
-ghost use Rattle.scope.specs.Limits.{stateLimit, marksAt};
+ghost use Rattle.scope.specs.Limits.{byteValues, stateLimit, marksAt};
 ghost use Rattle.slices.specs.Parts.{Decides};
 ghost use Rattle.smallest.specs.Image.{Planned, SameOrder, SameClasses, Stays};
 
@@ -23,12 +23,12 @@ fn is_same_order(order: &[u8; Machine::STATES], n: usize) -> bool
 }
 
 // Whether the classes of the bytes are the room's.
-fn are_same_classes(room: &[u8], class: &[u8; 256]) -> bool
+fn are_same_classes(room: &[u8], class: &[u8; Machine::BYTES]) -> bool
     requires { ⌜ marksAt ≤ length (now room) ⌝ }
-    ensures { λ r. ⌜ Decides r (SameClasses (now (room .entry)) (now (class .entry)) 256) ⌝ }
+    ensures { λ r. ⌜ Decides r (SameClasses (now (room .entry)) (now (class .entry)) byteValues) ⌝ }
 {
     let mut x: usize = 0;
-    while x < 256 {
+    while x < Machine::BYTES {
         if class[x] != room[Machine::CLASSES_AT + x] {
             return false;
         }

@@ -3,24 +3,12 @@ use crate::Plan;
 use scope::Machine;
 ghost use Prim.Native.Nat.{_+_, _-_, _*_, _≤_, _<_};
 ghost use lib.ListN.{length, getD};
-ghost use Rattle.scope.specs.Limits.{classLimit, classesAt, marksAt, cellsAt, roomBytes};
+ghost use Rattle.scope.specs.Limits.{classLimit, marksAt, cellsAt, roomBytes};
 ghost use Rattle.scope.specs.Room.{statesOf, classesOf, markOf, cellOf, Below, Sound};
 ghost use Rattle.scope.specs.Buffers.{Written};
 ghost use Rattle.slices.specs.Parts.{Stored};
 ghost use Rattle.smallest.specs.Numbering.{Rows};
 ghost use Rattle.smallest.specs.Image.{Planned, tableByte, imageByte};
-
-// Writes the class of each byte.
-fn write_classes(class: &[u8; 256], to: &mut [u8])
-    requires { ⌜ marksAt ≤ length (now to) ⌝ }
-    ensures { λ _. ⌜ Stored (now (to .entry)) (now (to .exit)) classesAt marksAt (λ i. getD (now (class .entry)) (i - classesAt) 0) ⌝ }
-{
-    let mut x: usize = 0;
-    while x < 256 {
-        to[Machine::CLASSES_AT + x] = class[x];
-        x += 1;
-    }
-}
 
 // Writes the marks of the n states.
 fn write_marks(from: &[u8], order: &[u8; Machine::STATES], n: usize, to: &mut [u8])
@@ -40,7 +28,7 @@ fn write_row(
     from: &[u8],
     state: usize,
     into: &[u8; Machine::STATES],
-    leader: &[u8; 256],
+    leader: &[u8; Machine::BYTES],
     k: usize,
     to: &mut [u8],
     at: usize,
@@ -63,7 +51,7 @@ fn write_cells(
     order: &[u8; Machine::STATES],
     into: &[u8; Machine::STATES],
     n: usize,
-    leader: &[u8; 256],
+    leader: &[u8; Machine::BYTES],
     k: usize,
     to: &mut [u8],
 )
@@ -94,7 +82,7 @@ pub fn write(from: &[u8], plan: Plan, to: &mut [u8])
     let leader = plan.leader;
     to[0] = n as u8;
     to[1] = k as u8;
-    write_classes(&class, to);
+    slices::write_classes(to, &class);
     write_marks(from, &order, n, to);
     slices::fill(to, Machine::MARKS_AT + n, Machine::CELLS_AT, 0);
     write_cells(from, &order, &into, n, &leader, k, to);

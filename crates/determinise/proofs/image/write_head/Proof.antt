@@ -1,4 +1,4 @@
--- What filling and writing the map leave.
+-- What filling and writing the classes leave.
 use mathlib.Core.Path.{_∙_}
 use borrow.Author.Needs.{needs}
 use lib.ListN.{length-set}
@@ -7,7 +7,7 @@ use Rattle.determinise.proofs.image.write_head.Statement.{statement}
 use Rattle.determinise.proofs.image.write_head.Tie as tie
 
 same-length : tie.Need-same-length
-same-length c = length-set (c .before .before .write-map .last .0) 1 (c .before .before .before .before .before .before .before .before .before .args .k) ∙ c .before .before .write-map .ensures .size ∙ c .before .before .before .before .before .before .fill .ensures .size
+same-length c = length-set (c .before .before .write-classes .last .0) 1 (c .before .before .before .before .before .before .before .before .before .before .args .k) ∙ c .before .before .write-classes .ensures .size ∙ c .before .before .before .before .before .before .before .fill .ensures .size
 
 returns : tie.Need-returns
 returns c = search (needs, headed)

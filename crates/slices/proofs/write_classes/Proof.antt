@@ -5,25 +5,25 @@ use native.Mathlib.Omega.{arith}
 use borrow.Author.Needs.{needs}
 use lib.ListN.{getD}
 use Rattle.scope.specs.Limits.{classesAt, marksAt}
 use Rattle.slices.specs.Parts.{Stored}
 use Rattle.slices.proofs.Laws.{stored-none, stored-more}
-use Rattle.determinise.proofs.image.write_map.Statement.{statement}
-use Rattle.determinise.proofs.image.write_map.Tie as tie
+use Rattle.slices.proofs.write_classes.Statement.{statement}
+use Rattle.slices.proofs.write_classes.Tie as tie
 
 abbrev Inv-loop : tie.InvT-loop
-Inv-loop image₀ map i₀ image i = (classesAt ≤ i) × (i ≤ marksAt) × Stored image₀ image classesAt i (λ j. getD map (j - classesAt) 0)
+Inv-loop room₀ class i₀ room i = (classesAt ≤ i) × (i ≤ marksAt) × Stored room₀ room classesAt i (λ j. getD class (j - classesAt) 0)
 
 abbrev μ-loop : tie.MeasureT-loop
-μ-loop image₀ map i₀ image i = marksAt - i
+μ-loop room₀ class i₀ room i = marksAt - i
 
 loop-holds : tie.Need-loop-holds Inv-loop μ-loop
 loop-holds c = (search needs, search needs, stored-none _ _ _)
 
-slice-write-image : tie.Need-slice-write-image Inv-loop μ-loop
-slice-write-image c = omega (arith, c .before .loop .inv .2 .size)
+slice-write-room : tie.Need-slice-write-room Inv-loop μ-loop
+slice-write-room c = omega (arith, c .before .before .loop .inv .2 .size)
 
 loop-again : tie.Need-loop-again Inv-loop μ-loop
-loop-again c = (search needs, search needs, stored-more (omega arith) (c .before .loop .inv .0) refl (c .before .loop .inv .2))
+loop-again c = (search needs, search needs, stored-more (omega arith) (c .before .before .loop .inv .0) refl (c .before .before .loop .inv .2))
 
 same-length : tie.Need-same-length Inv-loop μ-loop
 same-length c = c .before .loop .inv .2 .size
@@ -31,8 +31,8 @@ same-length c = c .before .loop .inv .2 .size
 returns : tie.Need-returns Inv-loop μ-loop
 returns c = let e : c .before .loop .i ≡ marksAt = omega arith in rw e at (c .before .loop .inv .2)
 
-pub write-map-spec : {M : Type 1} → statement M
-write-map-spec =
+pub write-classes-spec : {M : Type 1} → statement M
+write-classes-spec =
     tie.close
     (tie.spec
     Inv-loop
@@ -40,7 +40,7 @@ write-map-spec =
     loop-holds
     (λ c. search needs)
     (λ c. search needs)
-    slice-write-image
+    slice-write-room
     (λ c. search needs)
     (λ c. search needs)
     loop-again
