@@ -14,6 +14,7 @@ ghost use Rattle.scope.specs.Compare.{CompareLent, Compares};
 ghost use Rattle.scope.specs.Limits.{wordBytes};
 ghost use Rattle.scope.specs.Room.{Sound};
 ghost use Rattle.slices.specs.Parts.{Decides};
+ghost use Rattle.parts.specs.Kinds.{KindsOf};
 ghost use Rattle.compare.specs.Word.{Apart, Between, Spells, Holds, Answers};
 
 // Whether the two rooms, the string room and the scratch are long enough.
@@ -66,14 +67,15 @@ fn spell(
     part: &[u16; parts::STATES],
     parent: &[u16; parts::STATES],
     born: &[u16; parts::STATES],
+    kinds: parts::ByteKinds,
     long: usize,
     word: &mut [u8],
 )
     requires { ⌜ Spells (now left) (now right) (now part) (now parent) (now born) long ⌝ }
+    requires { ⌜ KindsOf (now left) (now right) (kinds .kind) (kinds .least) (kinds .count) ⌝ }
     requires { ⌜ long ≤ length (now word) ⌝ }
     ensures { λ _. ⌜ Holds (now (left .entry)) (now (right .entry)) (now (word .entry)) (now (word .exit)) long ⌝ }
 {
-    let kinds = parts::kinds(left, right);
     let least = kinds.least;
     let mut p: usize = 0;
     let mut q = left[0] as usize;
@@ -109,7 +111,8 @@ fn answer(left: &[u8], right: &[u8], word: &mut [u8]) -> Compared
     ensures { λ r. ⌜ Answers (now (left .entry)) (now (right .entry)) (now (word .entry)) (now (word .exit)) (comparedNumber r) (comparedLength r) (comparedRounds r) ⌝ }
 {
     let s = left[0] as usize;
-    let refined = parts::refine(left, right, s + right[0] as usize);
+    let kinds = parts::kinds(left, right);
+    let refined = parts::refine(left, right, kinds, s + right[0] as usize);
     let part = refined.part;
     let rounds = refined.rounds;
     if part[0] == part[s] {
@@ -118,7 +121,7 @@ fn answer(left: &[u8], right: &[u8], word: &mut [u8]) -> Compared
     let parent = refined.parent;
     let born = refined.born;
     let long = distance(&part, &parent, &born, 0, s, rounds);
-    spell(left, right, &part, &parent, &born, long, word);
+    spell(left, right, &part, &parent, &born, kinds, long, word);
     Compared::Separated(long, rounds)
 }
 

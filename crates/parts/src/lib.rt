@@ -92,13 +92,13 @@ struct Columns {
 }
 
 // The classes of the kinds.
-fn classes(a: &[u8], b: &[u8]) -> Columns
+fn classes(a: &[u8], b: &[u8], bytes: ByteKinds) -> Columns
     requires { ⌜ Sound (now a) × Sound (now b) ⌝ }
+    requires { ⌜ KindsOf (now a) (now b) (bytes .kind) (bytes .least) (bytes .count) ⌝ }
     ensures { λ r. ⌜ ColumnsOf (now (a .entry)) (now (b .entry)) (r .left) (r .right) (r .count) ⌝ }
 {
-    let z = kinds(a, b);
-    let least = z.least;
-    let count = z.count;
+    let least = bytes.least;
+    let count = bytes.count;
     let mut left = [0u8; Machine::BYTES];
     let mut right = [0u8; Machine::BYTES];
     let mut i: usize = 0;
@@ -282,13 +282,14 @@ pub struct Parts {
     pub rounds: usize,
 }
 
-// Refines the first n states until nothing splits.
-pub fn refine(a: &[u8], b: &[u8], n: usize) -> Parts
+// Refines the first n states until nothing splits; `bytes` has the kinds of the bytes.
+pub fn refine(a: &[u8], b: &[u8], bytes: ByteKinds, n: usize) -> Parts
     requires { ⌜ Side (now a) (now b) n ⌝ }
+    requires { ⌜ KindsOf (now a) (now b) (bytes .kind) (bytes .least) (bytes .count) ⌝ }
     ensures { λ r. ⌜ Refined (side (now (a .entry)) (now (b .entry)) n) (r .part) (r .parent) (r .born) (r .rounds) ⌝ }
     ensures { λ r. ⌜ (length (r .part) ≡ stateLimit + stateLimit) × (length (r .parent) ≡ stateLimit + stateLimit) × (length (r .born) ≡ stateLimit + stateLimit) ⌝ }
 {
-    let c = classes(a, b);
+    let c = classes(a, b, bytes);
     let left = c.left;
     let right = c.right;
     let count = c.count;

@@ -38,7 +38,7 @@ fn make_plan(from: &[u8]) -> Plan
     let kind = bytes.kind;
     let least = bytes.least;
     let kinds = bytes.count;
-    let refined = parts::refine(from, from, from[0] as usize);
+    let refined = parts::refine(from, from, bytes, from[0] as usize);
     let part = refined.part;
     let column = number::columns(from, &least, kinds);
     let states = number::arrivals(from, &part, &column, kinds);

@@ -12,6 +12,9 @@ shared-slice-read-s c = search needs
 cast-s : tie.Need-cast-s
 cast-s c = search needs
 
+kinds-requires : tie.Need-kinds-requires
+kinds-requires c κs = c .before .before .before .before .pre .0
+
 shared-slice-read-refine : tie.Need-shared-slice-read-refine
 shared-slice-read-refine c = search needs
 
@@ -23,8 +26,8 @@ add-refine c = search needs
 
 refine-requires : tie.Need-refine-requires
 refine-requires c κs =
-    let s = c .before .before .before .before .before .pre .0 in
-    side-both _ _ (s .0) (s .1)
+    let s = c .before .before .before .before .before .before .pre .0 in
+    (side-both _ _ (s .0) (s .1), c .before .kinds .ensures)
 
 array-read-if1 : tie.Need-array-read-if1
 array-read-if1 c = search needs
@@ -37,21 +40,21 @@ array-read-if1-2 c = search needs
 
 returns : tie.Need-returns
 returns c =
-    let s = c .before .before .before .before .before .before .before .before .pre .0 in
+    let s = c .before .before .before .before .before .before .before .before .before .pre .0 in
     answer-same (s .0) (s .1) (c .before .before .refine .ensures .0) (c .if1 .taken)
 
 distance-requires : tie.Need-distance-requires
 distance-requires c κs =
     let r = c .before .before .before .before .before .before .before in
-    let s = r .before .before .before .before .before .before .pre .0 in
+    let s = r .before .before .before .before .before .before .before .pre .0 in
     answer-apart (s .0) (s .1) (r .refine .ensures .0) (c .before .before .before .before .before .if1 .left)
 
 spell-requires : tie.Need-spell-requires
 spell-requires c κs =
     let r = c .before .before .before .before .before .before .before .before .before .before .before .before in
-    let s = r .before .before .before .before .before .before .pre in
+    let s = r .before .before .before .before .before .before .before .pre in
     let e = c .before .before .before .before .distance .ensures in
-    (answer-spells (s .0 .0) (s .0 .1) (r .refine .ensures .0) e, omega (arith, answer-fits (s .0 .0) (s .0 .1) (r .refine .ensures .0) e, s .1))
+    (answer-spells (s .0 .0) (s .0 .1) (r .refine .ensures .0) e, (r .before .before .kinds .ensures, omega (arith, answer-fits (s .0 .0) (s .0 .1) (r .refine .ensures .0) e, s .1)))
 
 same-length : tie.Need-same-length
 same-length c = c .before .before .spell .ensures .written .size
@@ -59,7 +62,7 @@ same-length c = c .before .before .spell .ensures .written .size
 returns-2 : tie.Need-returns-2
 returns-2 c =
     let r = c .before .before .before .before .before .before .before .before .before .before .before .before .before .before .before in
-    let s = r .before .before .before .before .before .before .pre .0 in
+    let s = r .before .before .before .before .before .before .before .pre .0 in
     answer-separated (s .0) (s .1) (r .refine .ensures .0) (c .before .before .spell .ensures)
 
 pub answer-spec : {M : Type 1} → statement M
@@ -68,6 +71,7 @@ answer-spec =
     (tie.spec
     shared-slice-read-s
     cast-s
+    kinds-requires
     shared-slice-read-refine
     cast-refine
     add-refine

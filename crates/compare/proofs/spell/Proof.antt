@@ -19,11 +19,6 @@ Inv-walk left right part parent born long word₀ least p₀ q₀ at₀ word p q
 abbrev μ-walk : tie.MeasureT-walk
 μ-walk left right part parent born long word₀ least p₀ q₀ at₀ word p q at = long - at
 
-kinds-requires : tie.Need-kinds-requires Inv-loop μ-loop Inv-walk μ-walk
-kinds-requires c κs =
-    let s = c .before .before .before .pre .0 in
-    (s .left, s .right)
-
 shared-slice-read-q : tie.Need-shared-slice-read-q Inv-loop μ-loop Inv-walk μ-walk
 shared-slice-read-q c = search needs
 
@@ -31,7 +26,7 @@ cast-q : tie.Need-cast-q Inv-loop μ-loop Inv-walk μ-walk
 cast-q c = search needs
 
 walk-holds : tie.Need-walk-holds Inv-loop μ-loop Inv-walk μ-walk
-walk-holds c = writing-none (c .before .before .before .before .before .before .pre .0) _
+walk-holds c = writing-none (c .before .before .before .before .before .pre .0) _
 
 loop-holds : tie.Need-loop-holds Inv-loop μ-loop Inv-walk μ-walk
 loop-holds c = below-none _
@@ -39,18 +34,17 @@ loop-holds c = below-none _
 array-read-x : tie.Need-array-read-x Inv-loop μ-loop Inv-walk μ-walk
 array-read-x c =
     let w = c .before .before in
-    let k = w .before .before .before in
-    let s = k .before .before .before .before .pre .0 in
-    omega (arith, untried s (k .kinds .ensures) (w .walk .inv) (c .loop-test .left) (c .before .loop .i) (c .before .loop .inv), k .kinds .ensures .few)
+    let s = w .before .before .before .before .before .before .pre in
+    omega (arith, untried (s .0) (s .1 .0) (w .walk .inv) (c .loop-test .left) (c .before .loop .i) (c .before .loop .inv), s .1 .0 .few)
 
 step-requires : tie.Need-step-requires Inv-loop μ-loop Inv-walk μ-walk
 step-requires c κs =
-    let s = c .before .before .before .before .before .before .before .before .before .pre .0 in
+    let s = c .before .before .before .before .before .before .before .before .pre .0 in
     ((s .left, s .right), c .before .before .walk .inv .left)
 
 step-requires-2 : tie.Need-step-requires-2 Inv-loop μ-loop Inv-walk μ-walk
 step-requires-2 c κs =
-    let s = c .before .before .before .before .before .before .before .before .before .before .pre .0 in
+    let s = c .before .before .before .before .before .before .before .before .before .pre .0 in
     ((s .left, s .right), c .before .before .before .walk .inv .right)
 
 add-r : tie.Need-add-r Inv-loop μ-loop Inv-walk μ-walk
@@ -60,10 +54,10 @@ sub-r : tie.Need-sub-r Inv-loop μ-loop Inv-walk μ-walk
 sub-r c = omega (arith, c .before .before .before .before .walk .inv .within, c .before .before .loop-test .left)
 
 climb-requires : tie.Need-climb-requires Inv-loop μ-loop Inv-walk μ-walk
-climb-requires c κs = climb-ready (c .before .before .before .before .before .before .before .before .before .before .before .pre .0) _ _ (c .before .step .ensures .1) (omega arith)
+climb-requires c κs = climb-ready (c .before .before .before .before .before .before .before .before .before .before .pre .0) _ _ (c .before .step .ensures .1) (omega arith)
 
 climb-requires-2 : tie.Need-climb-requires-2 Inv-loop μ-loop Inv-walk μ-walk
-climb-requires-2 c κs = climb-ready (c .before .before .before .before .before .before .before .before .before .before .before .before .pre .0) _ _ (c .before .step2 .ensures .1) (omega arith)
+climb-requires-2 c κs = climb-ready (c .before .before .before .before .before .before .before .before .before .before .before .pre .0) _ _ (c .before .step2 .ensures .1) (omega arith)
 
 add-i : tie.Need-add-i Inv-loop μ-loop Inv-walk μ-walk
 add-i c = omega (arith, array-read-x (c .before .before .before .before .before))
@@ -75,17 +69,16 @@ loop-again : tie.Need-loop-again Inv-loop μ-loop Inv-walk μ-walk
 loop-again c =
     let t = c .before .before .before .before .before in
     let w = t .before .before in
-    let k = w .before .before .before in
-    let s = k .before .before .before .before .pre in
-    tried-more (s .0) (k .kinds .ensures) (w .walk .inv) (t .loop-test .left) (t .before .loop .i) (t .before .loop .inv)
+    let s = w .before .before .before .before .before .before .pre in
+    tried-more (s .0) (s .1 .0) (w .walk .inv) (t .loop-test .left) (t .before .loop .i) (t .before .loop .inv)
     (c .before .before .before .before .step .ensures) (c .before .before .before .step2 .ensures) (c .before .before .climb .ensures) (c .before .climb2 .ensures) (c .if1 .left)
 
 slice-write-word : tie.Need-slice-write-word Inv-loop μ-loop Inv-walk μ-walk
 slice-write-word c =
     let t = c .before .before .before .before .before in
     let w = t .before .before in
-    let s = w .before .before .before .before .before .before .before .pre in
-    omega (arith, w .walk .inv .within, w .walk .inv .kept .size, t .loop-test .left, s .1)
+    let s = w .before .before .before .before .before .before .pre in
+    omega (arith, w .walk .inv .within, w .walk .inv .kept .size, t .loop-test .left, s .1 .1)
 
 add-at : tie.Need-add-at Inv-loop μ-loop Inv-walk μ-walk
 add-at c = omega (arith, c .before .before .before .before .before .before .before .walk .inv .within)
@@ -99,17 +92,16 @@ walk-again : tie.Need-walk-again Inv-loop μ-loop Inv-walk μ-walk
 walk-again c =
     let t = c .before .before .before .before .before in
     let w = t .before .before in
-    let k = w .before .before .before in
-    let s = k .before .before .before .before .pre in
-    writing-more (s .0) (k .kinds .ensures) (w .walk .inv) (t .loop-test .left) (t .before .loop .i) (t .before .loop .inv)
+    let s = w .before .before .before .before .before .before .pre in
+    writing-more (s .0) (s .1 .0) (w .walk .inv) (t .loop-test .left) (t .before .loop .i) (t .before .loop .inv)
     (c .before .before .before .before .step .ensures) (c .before .before .before .step2 .ensures) (c .before .before .climb .ensures) (c .before .climb2 .ensures)
-    (omega (arith, w .walk .inv .within, t .loop-test .left, s .1)) (c .if1 .taken)
+    (omega (arith, w .walk .inv .within, t .loop-test .left, s .1 .1)) (c .if1 .taken)
 
 same-length : tie.Need-same-length Inv-loop μ-loop Inv-walk μ-walk
 same-length c = c .before .before .walk .inv .kept .size
 
 returns : tie.Need-returns Inv-loop μ-loop Inv-walk μ-walk
-returns c = writing-done (c .before .before .before .before .before .before .before .before .before .pre .0) (c .loop-test .taken) (c .before .before .walk .inv)
+returns c = writing-done (c .before .before .before .before .before .before .before .before .pre .0) (c .loop-test .taken) (c .before .before .walk .inv)
 
 pub spell-spec : {M : Type 1} → statement M
 spell-spec =
@@ -119,7 +111,6 @@ spell-spec =
     μ-loop
     Inv-walk
     μ-walk
-    kinds-requires
     shared-slice-read-q
     cast-q
     walk-holds

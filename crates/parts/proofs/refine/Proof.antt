@@ -18,7 +18,7 @@ abbrev μ-loop : tie.MeasureT-loop
 
 -- there are at most n - 2 rounds
 few : (c : tie.At-loop Inv-loop μ-loop) → c .loop .r ≤ c .before .before .before .before .before .before .before .args .n - 2
-few c = after-few _ (c .before .before .before .before .before .before .before .pre .closed) _ _ _ _ (c .loop .inv .4)
+few c = after-few _ (c .before .before .before .before .before .before .before .pre .0 .closed) _ _ _ _ (c .loop .inv .4)
 
 classes-requires : tie.Need-classes-requires Inv-loop μ-loop
 classes-requires c κs = search needs
@@ -33,11 +33,11 @@ add-round : tie.Need-add-round Inv-loop μ-loop
 add-round c = omega (arith, few (c .before .before .before .before .before .before), c .before .before .before .before .before .before .before .before .before .before .before .before .before .fits .n)
 
 cast-round : tie.Need-cast-round Inv-loop μ-loop
-cast-round c = let d = c .before .before .before .before .before .before .before .before .before .before .before .before .before .pre in
+cast-round c = let d = c .before .before .before .before .before .before .before .before .before .before .before .before .before .pre .0 in
     omega (arith, few (c .before .before .before .before .before .before), d .few, d .left .few-states, d .right .few-states)
 
 round-requires : tie.Need-round-requires Inv-loop μ-loop
-round-requires c κs = let d = c .before .before .before .before .before .before .before .before .before .before .before .before .before .pre in
+round-requires c κs = let d = c .before .before .before .before .before .before .before .before .before .before .before .before .before .pre .0 in
     let l = c .before .before .before .before .before .before .loop in
     (d, (c .before .before .before .before .before .before .before .before .before .before .classes .ensures, (after-own _ (d .closed) _ _ _ _ (l .inv .4), (l .inv .1, l .inv .2, l .inv .3))))
 
@@ -45,10 +45,10 @@ add-r : tie.Need-add-r Inv-loop μ-loop
 add-r c = omega (arith, few (c .before .before .before .before .before .before .before .before), c .before .before .before .before .before .before .before .before .before .before .before .before .before .before .before .fits .n)
 
 loop-less : tie.Need-loop-less Inv-loop μ-loop
-loop-less c = omega (arith, few (c .before .before .before .before .before .before .before .before), c .before .before .before .before .before .before .before .before .before .before .before .before .before .before .before .pre .closed .some)
+loop-less c = omega (arith, few (c .before .before .before .before .before .before .before .before), c .before .before .before .before .before .before .before .before .before .before .before .before .before .before .before .pre .0 .closed .some)
 
 loop-again : tie.Need-loop-again Inv-loop μ-loop
-loop-again c = let d = c .before .before .before .before .before .before .before .before .before .before .before .before .before .before .before .pre in
+loop-again c = let d = c .before .before .before .before .before .before .before .before .before .before .before .before .before .before .before .pre .0 in
     let l = c .before .before .before .before .before .before .before .before .loop in
     let e = c .before .round .ensures in (
       e .0 .long ∙ l .inv .1,
@@ -59,7 +59,7 @@ loop-again c = let d = c .before .before .before .before .before .before .before
     )
 
 returns : tie.Need-returns Inv-loop μ-loop
-returns c = let d = c .before .before .before .before .before .before .before .before .before .before .before .before .before .before .before .pre in
+returns c = let d = c .before .before .before .before .before .before .before .before .before .before .before .before .before .before .before .pre .0 in
     let l = c .before .before .before .before .before .before .before .before .loop in
     let e = c .before .round .ensures in
     (after-done _ (d .closed) _ _ _ _ (l .inv .4) _ _ _ (e .0 .named) (e .1 .0) (e .1 .1 .no (c .if1 .left)), (l .inv .0, e .1 .0 .parent-long ∙ l .inv .2, e .1 .0 .born-long ∙ l .inv .3))

@@ -15,7 +15,7 @@ cast-refine : tie.Need-cast-refine
 cast-refine c = omega (arith, c .before .before .before .before .before .pre .few-states)
 
 refine-requires : tie.Need-refine-requires
-refine-requires c κs = side-left _ _ (c .before .before .before .before .before .pre) (c .before .before .before .before .before .pre)
+refine-requires c κs = let s = c .before .before .before .before .before .pre in (side-left _ _ s s, c .before .before .before .kinds .ensures)
 
 columns-requires : tie.Need-columns-requires
 columns-requires c κs = let k = c .before .before .before .before .before .before .kinds .ensures in (c .before .before .before .before .before .before .before .before .pre, (k .few, λ j h g. k .byte j h))
