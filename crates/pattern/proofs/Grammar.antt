@@ -73,7 +73,7 @@ module _ {s : List ℕ} where
   coded-in (plain h k) p e = absurd (other escapable k refl (sym p ∙ e))
   coded-in {i} (coded h k l m) p e = inside s (i + 3) (λ z. omega (arith, ap hex z))
 
-  -- their values are the byte
+  -- and their values make the byte
   pub escape-coded : {i j b a h l : ℕ} → Escape s i j b → a ≡ byte s (i + 1) → a ≡ 120 → h ≡ hex (getD s (i + 2) 0) → l ≡ hex (getD s (i + 3) 0)
       → (h < 16) × (l < 16) × Escape s i (i + 4) (h * 16 + l)
   unfolding escapable

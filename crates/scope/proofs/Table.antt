@@ -2,6 +2,7 @@
 -- wherever there is a state and a byte. The list of 8,578 bytes is never written out.
 --   tableOf g: the machine of the table
 --   Small, isSmall: the table fits a room, and the test of it
+--   listed-length, listed-at: the elements of a listing
 --   room-sound, room-agrees: its room is sound and holds the machine of the table
 use Prim.Native.Nat.{ℕ, zero, suc, _+_, _-_, _*_, _/_, _%_, _≤_, _<_}
 use mathlib.Core.Path.{_≡_, refl, sym, ap, _∙_}
@@ -65,13 +66,13 @@ small-by g e =
 
 -- ---- the bytes of the room
 
--- the bytes of a listing: as many as were asked for
+-- a listing has as many elements as were asked for
 pub listed-length : (f : ℕ → ℕ) (n : ℕ) → length (listed f n) ≡ n
 unfolding listed
 listed-length f zero = refl
 listed-length f (suc n) = length-append (listed f n) (f n ∷ []) ∙ omega (arith, listed-length f n)
 
--- each is what was listed
+-- and each is what was listed
 pub listed-at : (f : ℕ → ℕ) (n i : ℕ) → i < n → getD (listed f n) i 0 ≡ f i
 unfolding listed
 listed-at f (suc n) i h = elim (split i n) [

@@ -2,7 +2,7 @@
 --   which, split, level: a Boolean is true or false; of two numbers one is less, or the other at most it; two that are not less are equal
 --   same-test: two Booleans that imply each other are equal
 --   Tests b A: b decides A; never, always, or, and, implies, amounts, itself, equals, below, at-most, same-bool: what each decides
---   bit-same: a number below 2 is told by whether it is 1
+--   bit-same: two bits are equal if both are 1, or neither is
 --   pair: what two tests that passed show
 --   all f n, any f n: f passes at all, or at some, of the numbers below n; all-is, any-is: what they decide
 use Prim.Native.Nat.{ℕ, zero, suc, _≤_, _<_}
@@ -80,7 +80,7 @@ at-most m n = record { sound = λ e. leb→le m n (rw e tt); full = λ h. T→ _
 pub not-below : (m n : ℕ) → n ≤ m → ltb m n ≡ false
 not-below m n h = elim (which (ltb m n)) [ inl e ↦ absurd (omega (arith, below m n .sound e)) | inr e ↦ e ]
 
--- two bits that the test passes alike are one
+-- two bits are equal if both are 1, or neither is
 pub bit-same : (x y : ℕ) → x < 2 → y < 2 → eqb x 1 ≡ eqb y 1 → x ≡ y
 bit-same x y h k e = elim (which (eqb x 1)) [
   | inl t ↦ omega (arith, eqb-true x 1 t, eqb-true y 1 (sym e ∙ t))
