@@ -3,9 +3,12 @@
 --   classes-apart, sets-apart: over a limit and within it exclude each other
 --   one-language: two machines for one language accept the same strings
 --   determined: two results of one call are equal, with every byte of every buffer
+--   compiled-exact, compiled-canonical: after Done the room accepts exactly the words of the text's tree, and is canonical
+--   compiled-least: no complete machine for them has fewer states
+--   same-room: two texts with the same words give the same room
 use Prim.Native.Nat.{ℕ, _<_, _≤_}
 use mathlib.Core.Path.{_≡_, refl, sym, ap, subst, _∙_}
-use mathlib.Core.Logic.{inl, inr}
+use mathlib.Core.Logic.{inl, inr, _↔_}
 use mathlib.Core.List.{List, [], _∷_}
 use native.Mathlib.Omega.{arith}
 use lib.ListN.{length}
@@ -15,14 +18,17 @@ use Rattle.scope.specs.Re.{Re, Words}
 use Rattle.scope.specs.Tree.{Tree, expr, falling, opened, places}
 use Rattle.scope.specs.Judge.{Pattern, SyntaxAt, Beyond, RangeAt, Ordered, DepthAt, Shallow, PositionAt}
 use Rattle.scope.specs.Reached.{Share, ManyClasses, FewClasses, ManySets, FewSets}
-use Rattle.scope.specs.Machine.{Machine, Equal, Recognises}
-use Rattle.scope.specs.Room.{machine}
+use Rattle.scope.specs.Machine.{Machine, Equal, Recognises, Closed}
+use Rattle.scope.specs.Room.{statesOf, machine}
+use Rattle.scope.specs.Canonical.{Canonical}
 use Rattle.scope.specs.Buffers.{Lent}
 use Rattle.scope.specs.Compile.{Fits, Sized, CompileRefused, Compiles, no-room, too-long, no-syntax, falls, too-deep, too-many, many-classes, many-sets, compiled}
 use Rattle.scope.proofs.Tests.{same-test}
 use Rattle.scope.proofs.Buffers.{cleared-one, untouched-one, tail-one}
 use Rattle.scope.proofs.Count.{over-within}
 use Rattle.scope.proofs.Judge.{syntax-one, beyond-one}
+use Rattle.scope.proofs.Least.{least}
+use Rattle.scope.proofs.Room.{SameBytes}
 use Rattle.scope.proofs.Tree.{one-tree}
 use Rattle.scope.proofs.Unique.{unique}
 use Rattle.scope.proofs.Determined.{Judged, Single, judged-one}
@@ -170,3 +176,22 @@ module _ {text room u v bytes b c words w x : List ℕ} where
   determined {n} {m} {i} {j} a d =
       let e = judged-one (judgements text room bytes words) (single text room bytes words) (n, i) (m, j) (chain text room bytes words a) (chain text room bytes words d) in
       (ap (λ (r : Answer). r .0) e, ap (λ (r : Answer). r .1) e, after-one a (subst (λ (r : Answer). Compiles text room v bytes c words x (r .0) (r .1)) (sym e) d))
+
+-- ---- what a compiled room is
+
+module _ {text room room′ bytes bytes′ words words′ : List ℕ} where
+  pub compiled-exact : Compiles text room room′ bytes bytes′ words words′ DONE 0 → (t : Tree) → Pattern text t → Recognises (machine room′) (Words (expr t))
+  compiled-exact (compiled {t = u} y s m n k e h f) t p = rw (one-tree text t u p (s .pattern)) e
+
+  pub compiled-canonical : Compiles text room room′ bytes bytes′ words words′ DONE 0 → Canonical room′
+  compiled-canonical (compiled y s m n k e h f) = k
+
+  pub compiled-least : Compiles text room room′ bytes bytes′ words words′ DONE 0 → (t : Tree) → Pattern text t → (N : Machine) → Closed N → Recognises N (Words (expr t))
+      → statesOf room′ ≤ N .states
+  compiled-least x t p N c r = least room′ N (compiled-canonical x) c (one-language (machine room′) N (Words (expr t)) (compiled-exact x t p) r)
+
+module _ {text text′ room room′ u v bytes b bytes′ b′ words w words′ w′ : List ℕ} where
+  pub same-room : Compiles text room u bytes b words w DONE 0 → Compiles text′ room′ v bytes′ b′ words′ w′ DONE 0 → (t t′ : Tree) → Pattern text t → Pattern text′ t′
+      → ((s : List ℕ) → Words (expr t) s ↔ Words (expr t′) s) → SameBytes u v
+  same-room x y t t′ p q e = unique u v (compiled-canonical x) (compiled-canonical y)
+      (one-language (machine u) (machine v) (Words (expr t)) (compiled-exact x t p) (λ s g. (λ a. e s .1 (compiled-exact y t′ q s g .0 a), λ l. compiled-exact y t′ q s g .1 (e s .0 l))))

@@ -1,0 +1,18 @@
+-- What was read. No contract can say what the input is; what was taken is right for the input that there was.
+--   Read t left right: some input was read, and its two lines are what was taken
+--   Lines t left right: so it is, in two buffers that have one byte more than a pattern may have
+use Prim.Native.Nat.{ℕ, _+_}
+use mathlib.Core.Path.{_≡_}
+use mathlib.Core.List.{List}
+use lib.ListN.{length}
+use Rattle.scope.specs.Limits.{patternLimit}
+use Rattle.lines.specs.declared.Taking.{Taking}
+use Rattle.lines.specs.Taking.{Taken}
+
+pub data Read (t : Taking) (left right : List ℕ) : Type 0 where
+  read : {input : List ℕ} → Taken input t left right → Read t left right
+
+pub record Lines (t : Taking) (left right : List ℕ) : Type 0 where
+  pub taken : Read t left right
+  pub left-long : length left ≡ patternLimit + 1
+  pub right-long : length right ≡ patternLimit + 1
