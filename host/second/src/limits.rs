@@ -1,0 +1,30 @@
+//! The numbers of document 01 that bound the work, and where the parts of a room lie.
+
+/// Longest pattern that is taken, in bytes.
+pub const PATTERN: usize = 1024;
+/// Most nested parentheses.
+pub const DEPTH: usize = 32;
+/// Most positions.
+pub const POSITIONS: usize = 63;
+/// Most classes, of a pattern and of a room.
+pub const CLASSES: usize = 64;
+/// Most sets reached, and most states of a room.
+pub const STATES: usize = 128;
+/// Number of byte values.
+pub const BYTES: usize = 256;
+
+/// Where the classes of the byte values begin in a room.
+pub const CLASS_AT: usize = 2;
+/// Where the accept marks begin in a room.
+pub const MARK_AT: usize = CLASS_AT + BYTES;
+/// Where the cells begin in a room.
+pub const CELL_AT: usize = MARK_AT + STATES;
+/// Number of bytes of a room.
+pub const ROOM: usize = CELL_AT + STATES * CLASSES;
+
+/// Bytes of scratch.
+pub const SCRATCH_BYTES: usize = 32768;
+/// Eight-byte words of scratch.
+pub const SCRATCH_WORDS: usize = 256;
+/// Room for a separating string.
+pub const WORD: usize = 254;

@@ -1,0 +1,182 @@
+//! Sets of positions, by an automaton with empty steps in Thompson's way.
+//!
+//! Each node of the tree has an entry and an exit; empty steps join them, and a position is the one step from its entry to its
+//! exit that reads a byte. The set that a text reaches is the set of positions that can be the one read last; the text that has
+//! no byte reaches {0}. In a set, bit p stands for position p.
+
+use std::collections::HashMap;
+
+use crate::limits;
+use crate::machine::Machine;
+use crate::text::{Node, Position, Tree};
+
+/// The automaton of a tree of at most 63 positions.
+pub struct Automaton {
+    steps: Vec<Vec<usize>>,
+    entries: Vec<usize>,
+    positions: Vec<Position>,
+}
+
+/// The entry of the whole expression.
+const START: usize = 0;
+/// The exit of the whole expression.
+const END: usize = 1;
+
+fn entry(node: usize) -> usize {
+    2 * node
+}
+
+fn exit(node: usize) -> usize {
+    2 * node + 1
+}
+
+impl Automaton {
+    /// The automaton of a tree.
+    pub fn new(tree: &Tree) -> Automaton {
+        let mut steps = vec![Vec::new(); 2 * tree.nodes.len()];
+        let mut entries = vec![START; tree.positions.len() + 1];
+        for (at, node) in tree.nodes.iter().enumerate() {
+            match node {
+                Node::Nothing => {}
+                Node::Empty => steps[entry(at)].push(exit(at)),
+                Node::Position(position) => entries[*position] = entry(at),
+                Node::Union(parts) => {
+                    for &part in parts {
+                        steps[entry(at)].push(entry(part));
+                        steps[exit(part)].push(exit(at));
+                    }
+                }
+                Node::Product(parts) => {
+                    let mut from = entry(at);
+                    for &part in parts {
+                        steps[from].push(entry(part));
+                        from = exit(part);
+                    }
+                    steps[from].push(exit(at));
+                }
+                Node::Star(part) => {
+                    steps[entry(at)].extend([entry(*part), exit(at)]);
+                    steps[exit(*part)].extend([entry(*part), exit(at)]);
+                }
+            }
+        }
+        Automaton {
+            steps,
+            entries,
+            positions: tree.positions.clone(),
+        }
+    }
+
+    /// Which entries and exits empty steps reach after the positions of a set.
+    fn closure(&self, set: u64) -> Vec<bool> {
+        let mut reached = vec![false; self.steps.len()];
+        let mut waiting: Vec<usize> = (1..self.entries.len())
+            .filter(|&position| set >> position & 1 == 1)
+            .map(|position| self.entries[position] + 1)
+            .collect();
+        if set & 1 == 1 {
+            waiting.push(START);
+        }
+        while let Some(at) = waiting.pop() {
+            if !std::mem::replace(&mut reached[at], true) {
+                waiting.extend(&self.steps[at]);
+            }
+        }
+        reached
+    }
+
+    /// The positions that can be read next after a set, and whether the text may end there.
+    fn after(&self, set: u64) -> (u64, bool) {
+        let reached = self.closure(set);
+        let next = (1..self.entries.len())
+            .filter(|&position| reached[self.entries[position]])
+            .fold(0, |next, position| next | 1 << position);
+        (next, reached[END])
+    }
+
+    /// Whether the expression has the empty word.
+    pub fn null(&self) -> bool {
+        self.after(1).1
+    }
+
+    /// The positions that can be read first.
+    pub fn first(&self) -> u64 {
+        self.after(1).0
+    }
+
+    /// The positions that can be read last.
+    pub fn last(&self) -> u64 {
+        (1..self.entries.len())
+            .filter(|&position| self.after(1 << position).1)
+            .fold(0, |last, position| last | 1 << position)
+    }
+
+    /// The positions that can be read after a position.
+    pub fn follow(&self, position: usize) -> u64 {
+        self.after(1 << position).0
+    }
+
+    /// The positions that hold a byte.
+    fn holding(&self, byte: u8) -> u64 {
+        self.positions
+            .iter()
+            .enumerate()
+            .filter(|(_, position)| position.holds.has(byte))
+            .fold(0, |set, (at, _)| set | 2 << at)
+    }
+
+    /// The pattern class of each byte value, numbered by smallest byte, and the number of classes.
+    pub fn pattern_classes(&self) -> (Vec<usize>, usize) {
+        let mut known: Vec<u64> = Vec::new();
+        let class = (0..limits::BYTES)
+            .map(|byte| {
+                let held = self.holding(byte as u8);
+                known
+                    .iter()
+                    .position(|&other| other == held)
+                    .unwrap_or_else(|| {
+                        known.push(held);
+                        known.len() - 1
+                    })
+            })
+            .collect();
+        (class, known.len())
+    }
+
+    /// The sets reached from {0}, in order of arrival, as a machine; none if they are more than `most`.
+    pub fn reached(&self, most: usize) -> Option<(Vec<u64>, Machine)> {
+        let (class, classes) = self.pattern_classes();
+        let mut machine = Machine {
+            states: 0,
+            classes,
+            class,
+            marks: Vec::new(),
+            cells: Vec::new(),
+        };
+        let holding: Vec<u64> = machine
+            .samples()
+            .into_iter()
+            .map(|byte| self.holding(byte))
+            .collect();
+        let mut sets = vec![1];
+        let mut known = HashMap::from([(1, 0)]);
+        while machine.states < sets.len() {
+            let (next, accepts) = self.after(sets[machine.states]);
+            machine.marks.push(accepts);
+            machine.states += 1;
+            for held in &holding {
+                let set = next & held;
+                let fresh = sets.len();
+                let number = *known.entry(set).or_insert(fresh);
+                if number == fresh {
+                    sets.push(set);
+                }
+                machine.cells.push(number);
+            }
+            if sets.len() > most {
+                return None;
+            }
+        }
+        Some((sets, machine))
+    }
+}
