@@ -1,0 +1,22 @@
+//! The numbers that bound the work. Those of the last four that follow from the others are written so.
+
+/// Bytes of a pattern, at most.
+pub const PATTERN: usize = 1_024;
+/// Parentheses inside each other, at most.
+pub const NESTED: usize = 32;
+/// Positions (literals, byte escapes, classes and dots) of a pattern, at most.
+pub const POSITIONS: usize = 63;
+/// Classes of a pattern or a machine, at most.
+pub const CLASSES: usize = 64;
+/// Sets reached in compiling, and states of a machine, at most.
+pub const STATES: usize = 128;
+/// Bytes of a machine room: the two numbers, the class of each byte value, the accept marks, the cells.
+pub const ROOM: usize = 2 + 256 + STATES + STATES * CLASSES;
+/// Bytes of a form, at most: its bit fields, filled to a whole byte.
+pub const FORM: usize = (4 + 7 + 6 + 256 * 6 + STATES + STATES * CLASSES * 7 + 7) / 8;
+/// Bytes of a separating string, at most.
+pub const WORD: usize = 2 * STATES - 2;
+/// Bytes of scratch.
+pub const SCRATCH_BYTES: usize = 32_768;
+/// Words of scratch, of eight bytes each.
+pub const SCRATCH_WORDS: usize = 256;
