@@ -54,7 +54,7 @@ fn patterns_are_compiled_or_refused() {
         (format!("a{}", "*".repeat(limits::PATTERN - 1)), Ok((2, 2))),
         (nested(limits::NESTED), Ok((3, 2))),
         (format!("{}[x-y][y-z]", literals(60)), Ok((64, 64))),
-        (many_sets(29), compiled(&many_sets(29))),
+        (many_sets(29), Ok((127, 5))),
         ("a".repeat(limits::PATTERN + 1), Err(Refusal::Long)),
         ("".to_string(), Err(Refusal::Syntax(0))),
         ("a|".to_string(), Err(Refusal::Syntax(2))),
@@ -75,7 +75,6 @@ fn patterns_are_compiled_or_refused() {
         (many_sets(30), Err(Refusal::States)),
     ];
     agree(&rows, |pattern| compiled(pattern));
-    assert!(compiled(&many_sets(29)).is_ok());
 }
 
 #[test]
