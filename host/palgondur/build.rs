@@ -1,4 +1,5 @@
-//! Links `libpalgondur.a`: from the folder that PALGONDUR_ARCHIVE names, or else from the repository's `target/staticlib`. There it is made by `rt` if it is missing.
+//! Links `libpalgondur.a`: from the folder that PALGONDUR_ARCHIVE names, or else from the repository's
+//! `target/staticlib`. There it is made by `rt` if it is missing.
 
 use std::env;
 use std::path::{Path, PathBuf};
@@ -7,7 +8,7 @@ use std::process::{exit, Command};
 const ARCHIVE: &str = "libpalgondur.a";
 
 fn main() {
-    let folder = folder();
+    let folder = folder().canonicalize().expect("a folder that is there");
     println!("cargo:rerun-if-env-changed=PALGONDUR_ARCHIVE");
     println!("cargo:rerun-if-changed=build.rs");
     println!("cargo:rerun-if-changed={}", folder.join(ARCHIVE).display());
@@ -24,13 +25,14 @@ fn folder() -> PathBuf {
         }
         return folder;
     }
-    let repository = Path::new(env!("CARGO_MANIFEST_DIR")).join("../..");
+    let package = env::var_os("CARGO_MANIFEST_DIR").expect("cargo names the package's folder");
+    let repository = Path::new(&package).join("../..");
     let folder = repository.join("target/staticlib");
     if !folder.join(ARCHIVE).is_file() && !made(&repository) {
-        stop("libpalgondur.a is missing: make it by `rt staticlib palgondur` at the top of the repository, or name its folder in PALGONDUR_ARCHIVE");
+        stop("libpalgondur.a is missing: `rt staticlib palgondur`, at the top of the repository, makes it");
     }
     if env::var("CARGO_CFG_TARGET_ARCH").as_deref() != Ok("x86_64") {
-        println!("cargo:warning=libpalgondur.a has x86-64 code: what links it is built with --target x86_64-unknown-linux-gnu, as host/test does");
+        println!("cargo:warning=libpalgondur.a has x86-64 code: link it with --target x86_64-unknown-linux-gnu");
     }
     folder
 }

@@ -1,7 +1,9 @@
-//! Proved regular expressions over bytes: a pattern is compiled to a small table, and strings are matched against it whole.
+//! Proved regular expressions over bytes: a pattern is compiled to a small table, and strings are matched against it
+//! whole.
 //!
-//! Each answer is that of an operation that is proved to meet its contract, for every input; `docs/CONTRACTS.md` has the contracts. This crate calls those
-//! operations, takes their numbers apart and owns their buffers. Nothing is repaired, everything is judged, and the place of a fault is named.
+//! Each answer is that of an operation that is proved to meet its contract, for every input; `docs/CONTRACTS.md` has
+//! the contracts. This crate calls those operations, takes their numbers apart and owns their buffers. Nothing is
+//! repaired, everything is judged, and the place of a fault is named.
 //!
 //! ```
 //! use palgondur::{Comparison, Machine, Match};
@@ -31,7 +33,8 @@
 //! | pack | [`Machine::pack`] |
 //! | unpack | [`Form::unpack`] |
 //!
-//! All but matching work in a [`Scratch`]. They make one, or are lent one where their name ends in `_with`. Module [`raw`] has the same operations on bare slices.
+//! All but matching work in a [`Scratch`]. They make one, or are lent one where their name ends in `_with`. Module
+//! [`raw`] has the same operations on bare slices.
 #![deny(missing_docs)]
 #![deny(unsafe_op_in_unsafe_fn)]
 

@@ -6,7 +6,8 @@ use std::fmt;
 
 /// A machine: a sound room of its own.
 ///
-/// Those that are compiled, minimised or unpacked are canonical: two of them are equal exactly if they accept the same strings.
+/// Those that are compiled, minimised or unpacked are canonical: two of them are equal exactly if they accept the same
+/// strings.
 #[derive(Clone, PartialEq, Eq, Hash)]
 pub struct Machine {
     room: Box<[u8; limits::ROOM]>,
@@ -17,13 +18,15 @@ pub struct Machine {
 pub enum Match {
     /// The text is accepted.
     Accepted,
-    /// The prefix of this length is the shortest that no continuation would make accepted; 0 if the machine accepts nothing.
+    /// The prefix of this length is the shortest that no continuation would make accepted; 0 if the machine accepts
+    /// nothing.
     Dead(usize),
     /// The text is not accepted, but some continuation of it is.
     Unfinished,
 }
 
-/// What a comparison answers. Rounds are how often states could be split by what they accept and where bytes send them, until nothing split.
+/// What a comparison answers. Rounds are how often states could be split by what they accept and where bytes send them,
+/// until nothing split.
 #[derive(Clone, PartialEq, Eq, Hash, Debug)]
 pub enum Comparison {
     /// Both accept the same strings.
@@ -71,7 +74,8 @@ impl Machine {
         done(number, place).map(|()| machine)
     }
 
-    /// The machine of a room from outside, as it is: it need not be canonical. ROOM, if the room is too short; FORM, if it is not sound. What follows the room is not read.
+    /// The machine of a room from outside, as it is: it need not be canonical. ROOM, if the room is too short; FORM, if
+    /// it is not sound. What follows the room is not read.
     ///
     /// ```
     /// use palgondur::{Machine, Refusal};

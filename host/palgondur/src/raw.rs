@@ -1,7 +1,8 @@
 //! The six operations as the archive has them: slices of any length in, numbers out.
 //!
-//! Nothing is judged here: a room or scratch that is too short is the operation's ROOM. The numbers are those of [`Refusal::number`](crate::Refusal::number),
-//! and 0 for Done, Accepted and Same, [`DEAD`], [`UNFINISHED`], [`SEPARATED`]. A number that an answer does not have is 0.
+//! Nothing is judged here: a room or scratch that is too short is the operation's ROOM. The numbers are those of
+//! [`Refusal::number`](crate::Refusal::number), and 0 for Done, Accepted and Same, [`DEAD`], [`UNFINISHED`],
+//! [`SEPARATED`]. A number that an answer does not have is 0.
 //!
 //! ```
 //! use palgondur::{limits, raw};
@@ -50,9 +51,10 @@ extern "C" {
     fn palgondur_unpack(form: &[u8], room: &mut [u8], bytes: &mut [u8], words: &mut [u64]) -> u8;
 }
 
-// Why the calls below are sound. Each function's proved contract takes slices of every length and content, so there is nothing a caller has to keep but Rust's rules
-// for references, and the types here keep those: an exclusive borrow overlaps nothing else that is lent. The archive takes a slice as a pointer and a length, the way Rust
-// passes it, writes only what is lent as `&mut`, keeps no reference, calls nothing back and does not unwind.
+// Why the calls below are sound. Each function's proved contract takes slices of every length and content, so there is
+// nothing a caller has to keep but Rust's rules for references, and the types here keep those: an exclusive borrow
+// overlaps nothing else that is lent. The archive takes a slice as a pointer and a length, the way Rust passes it,
+// writes only what is lent as `&mut`, keeps no reference, calls nothing back and does not unwind.
 
 /// Compiles `pattern` into `room`: the answer's number and its place.
 pub fn compile(
@@ -78,7 +80,8 @@ pub fn match_text(room: &[u8], text: &[u8]) -> (u8, usize) {
     (number, place)
 }
 
-/// Compares two rooms, with the separating string at the front of `word`: the answer's number, the string's length, and the rounds.
+/// Compares two rooms, with the separating string at the front of `word`: the answer's number, the string's length, and
+/// the rounds.
 pub fn compare(
     left: &[u8],
     right: &[u8],

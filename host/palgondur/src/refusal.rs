@@ -76,7 +76,8 @@ impl Refusal {
         }
     }
 
-    /// The refused pattern on one line, and under it a caret at the place, if there is one, and the reason. Bytes that are not printed as they are stand as `\xNN`.
+    /// The refused pattern on one line, and under it a caret at the place, if there is one, and the reason. Bytes that
+    /// are not printed as they are stand as `\xNN`.
     ///
     /// ```
     /// use palgondur::Machine;
