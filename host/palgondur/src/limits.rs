@@ -1,4 +1,4 @@
-//! The numbers that bound the work. Those of the last four that follow from the others are written so.
+//! The numbers that bound the work. A number that follows from others is written as it follows.
 
 /// Bytes of a pattern, at most.
 pub const PATTERN: usize = 1_024;
