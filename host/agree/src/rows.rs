@@ -1,0 +1,231 @@
+//! Rows: files of plain text, one row a line, fields between spaces. A line that begins with `#` and a space says what the columns are, or what stands below it.
+
+use std::fmt;
+
+use crate::case::{form_length, Case, Operation};
+use crate::run::{both, Outcome};
+use crate::written::{hex, read};
+
+/// The files of rows, each with its runner.
+pub const FILES: [File; 8] = [
+    ("patterns", include_str!("../rows/patterns.txt"), pattern),
+    ("machines", include_str!("../rows/machines.txt"), machine),
+    ("matches", include_str!("../rows/matches.txt"), matched),
+    (
+        "comparisons",
+        include_str!("../rows/comparisons.txt"),
+        comparison,
+    ),
+    ("laws", include_str!("../rows/laws.txt"), law),
+    ("rooms", include_str!("../rows/rooms.txt"), room),
+    ("forms", include_str!("../rows/forms.txt"), form),
+    (
+        "positions",
+        include_str!("../rows/positions.txt"),
+        positions,
+    ),
+];
+
+/// A file's name, its text, and what runs a row of it: what is found must be what the row says.
+pub type File = (
+    &'static str,
+    &'static str,
+    fn(&[&str]) -> Result<(), String>,
+);
+
+/// Runs every row of a file: the number of rows, or each that fails with its line.
+pub fn run(file: &File) -> Result<usize, String> {
+    let (name, text, runner) = file;
+    let rows = text
+        .lines()
+        .zip(1..)
+        .filter(|(line, _)| !line.starts_with("# ") && !line.is_empty());
+    let mut count = 0;
+    let mut failed = String::new();
+    for (line, number) in rows {
+        let fields: Vec<&str> = line.split_whitespace().collect();
+        count += 1;
+        if let Err(fault) = runner(&fields) {
+            failed += &format!("\n{name}.txt:{number}: {line}\n  {fault}");
+        }
+    }
+    if failed.is_empty() {
+        Ok(count)
+    } else {
+        Err(failed)
+    }
+}
+
+/// Both sides' outcome.
+fn outcome(operation: Operation, reads: &[&[u8]]) -> Result<Outcome, String> {
+    both(&Case::new(operation, reads)).map_err(|difference| difference.to_string())
+}
+
+fn bytes(field: &str) -> Result<Vec<u8>, String> {
+    read(field).ok_or_else(|| format!("not a field of bytes: {field}"))
+}
+
+/// Whether what is found is what the row says.
+fn expect(found: impl fmt::Display, says: &[&str]) -> Result<(), String> {
+    let found = found.to_string();
+    if found == says.join(" ") {
+        Ok(())
+    } else {
+        Err(format!("found: {found}"))
+    }
+}
+
+/// The room of a pattern that is taken.
+fn compiled(pattern: &str) -> Result<Vec<u8>, String> {
+    let outcome = outcome(Operation::Compile, &[&bytes(pattern)?])?;
+    match outcome.answer {
+        (0, _, _) => Ok(outcome.after.output),
+        answer => Err(format!("{pattern} is refused: {answer:?}")),
+    }
+}
+
+/// `PATTERN -> taken N K LENGTH` or `PATTERN -> refused NUMBER PLACE`.
+fn pattern(row: &[&str]) -> Result<(), String> {
+    let outcome = outcome(Operation::Compile, &[&bytes(row[0])?])?;
+    let (number, place, _) = outcome.answer;
+    if number != 0 {
+        return expect(format!("refused {number} {place}"), &row[2..]);
+    }
+    let (states, classes, length) = packed(&outcome.after.output)?;
+    expect(format!("taken {states} {classes} {length}"), &row[2..])
+}
+
+/// The room's n and k and the length of its form, which unpacks to the room again.
+fn packed(room: &[u8]) -> Result<(u8, u8, usize), String> {
+    let pack = outcome(Operation::Pack, &[room])?;
+    let (number, length, _) = pack.answer;
+    if number != 0 || length != form_length(usize::from(room[0]), usize::from(room[1])) {
+        return Err(format!("packing answers {number}, length {length}"));
+    }
+    let back = outcome(Operation::Unpack, &[&pack.after.output[..length]])?;
+    if back.answer.0 != 0 || back.after.output != room {
+        return Err("unpacking gives another room".to_string());
+    }
+    Ok((room[0], room[1], length))
+}
+
+/// `PATTERN -> ROWS ACCEPTING`: the table's rows between `/`, cells between commas; the accepting states between commas, or `-`.
+fn machine(row: &[&str]) -> Result<(), String> {
+    let room = second::Machine::read(&compiled(row[0])?).ok_or("a room that is not sound")?;
+    let table: Vec<String> = room
+        .cells
+        .chunks(room.classes)
+        .map(|cells| listed(cells.to_vec()))
+        .collect();
+    let accepting = (0..room.states)
+        .filter(|&state| room.marks[state])
+        .collect();
+    expect(
+        format!("{} {}", table.join("/"), listed(accepting)),
+        &row[2..],
+    )
+}
+
+/// Numbers between commas, `-` if there are none.
+fn listed(numbers: Vec<usize>) -> String {
+    let names: Vec<String> = numbers.iter().map(|number| number.to_string()).collect();
+    match &names[..] {
+        [] => "-".to_string(),
+        _ => names.join(","),
+    }
+}
+
+/// `PATTERN TEXT -> accepted`, `dead PLACE` or `unfinished`.
+fn matched(row: &[&str]) -> Result<(), String> {
+    let outcome = outcome(Operation::Match, &[&compiled(row[0])?, &bytes(row[1])?])?;
+    expect(match_words(outcome.answer.0, outcome.answer.1), &row[3..])
+}
+
+fn match_words(number: u8, place: usize) -> String {
+    match number {
+        0 => "accepted".to_string(),
+        64 => format!("dead {place}"),
+        65 => "unfinished".to_string(),
+        _ => format!("refused {number} {place}"),
+    }
+}
+
+/// The answer of comparing two patterns, in words, and its rounds.
+fn compared(left: &str, right: &str) -> Result<(String, usize), String> {
+    let outcome = outcome(Operation::Compare, &[&compiled(left)?, &compiled(right)?])?;
+    let (number, length, rounds) = outcome.answer;
+    match number {
+        0 => Ok(("same".to_string(), rounds)),
+        66 => Ok((
+            format!("separated {}", hex(&outcome.after.output[..length])),
+            rounds,
+        )),
+        _ => Err(format!("comparing is refused: {number}")),
+    }
+}
+
+/// `LEFT RIGHT -> same rounds R` or `separated HEX rounds R`.
+fn comparison(row: &[&str]) -> Result<(), String> {
+    let (answer, rounds) = compared(row[0], row[1])?;
+    expect(format!("{answer} rounds {rounds}"), &row[3..])
+}
+
+/// `LAW LEFT RIGHT -> same` or `separated HEX`.
+fn law(row: &[&str]) -> Result<(), String> {
+    let (answer, _) = compared(row[1], row[2])?;
+    expect(answer, &row[4..])
+}
+
+/// `PATTERN CHANGES -> minimise ANSWER match ANSWER compare ANSWER pack ANSWER`: the numbers of the four operations on the pattern's room with bytes changed, as
+/// `AT=VALUE` between commas; matching the empty text, comparing with the pattern itself.
+fn room(row: &[&str]) -> Result<(), String> {
+    let whole = compiled(row[0])?;
+    let mut changed = whole.clone();
+    for change in row[1].split(',').filter(|&change| change != "-") {
+        let (at, value) = change.split_once('=').ok_or("a change is AT=VALUE")?;
+        let at: usize = at.parse().map_err(|_| "not a place")?;
+        changed[at] = value.parse().map_err(|_| "not a byte")?;
+    }
+    let number =
+        |operation, reads: &[&[u8]]| outcome(operation, reads).map(|outcome| outcome.answer.0);
+    let minimise = number(Operation::Minimise, &[&changed])?;
+    let matching = number(Operation::Match, &[&changed, b""])?;
+    let compare = number(Operation::Compare, &[&whole, &changed])?;
+    let pack = number(Operation::Pack, &[&changed])?;
+    expect(
+        format!("minimise {minimise} match {matching} compare {compare} pack {pack}"),
+        &row[3..],
+    )
+}
+
+/// `PATTERN CHANGE -> NUMBER`: unpacking the pattern's form after a change: `whole`, `flip:BIT`, `cut:BYTES`, `more:HEX`.
+fn form(row: &[&str]) -> Result<(), String> {
+    let pack = outcome(Operation::Pack, &[&compiled(row[0])?])?;
+    let mut form = pack.after.output[..pack.answer.1].to_vec();
+    let (kind, number) = row[1].split_once(':').unwrap_or((row[1], "0"));
+    let number: usize = number.parse().map_err(|_| "not a number")?;
+    match kind {
+        "whole" => {}
+        "flip" => form[number / 8] ^= 0x80 >> (number % 8),
+        "cut" => form.truncate(form.len() - number),
+        "more" => form.push(number as u8),
+        _ => return Err("no such change".to_string()),
+    }
+    expect(outcome(Operation::Unpack, &[&form])?.answer.0, &row[3..])
+}
+
+/// `PATTERN -> NULLABLE FIRST LAST FOLLOW`: sets of positions, which only the second program shows.
+fn positions(row: &[&str]) -> Result<(), String> {
+    let tree = second::text::tree(&bytes(row[0])?).ok_or("not a legal pattern")?;
+    let automaton = second::sets::Automaton::new(&tree);
+    let set = |set: u64| listed((0..64).filter(|at| set >> at & 1 == 1).collect());
+    let follow: Vec<String> = (1..=tree.positions.len())
+        .map(|at| set(automaton.follow(at)))
+        .collect();
+    let null = if automaton.null() { "nullable" } else { "not" };
+    let (first, last) = (set(automaton.first()), set(automaton.last()));
+    expect(
+        format!("{null} {first} {last} {}", follow.join("/")),
+        &row[2..],
+    )
+}

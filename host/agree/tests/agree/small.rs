@@ -1,0 +1,149 @@
+//! All small cases of a kind.
+
+use agree::case::form_length;
+use agree::many::Tally;
+use agree::{both, small, Case, Operation};
+use second::derive::Language;
+use second::exhaustive::strings;
+use second::judge::judge;
+use second::limits;
+
+use crate::say;
+
+/// Runs all cases, says how many of what they were, and fails if one differs.
+fn all(what: &str, cases: impl Iterator<Item = Case>) {
+    let mut tally = Tally::default();
+    for (number, case) in cases.enumerate() {
+        tally.run(&format_args!("{what}, case {number}"), &case);
+    }
+    say(format!("agree: {} cases, {what}\n{tally}", tally.cases));
+    tally.check();
+}
+
+fn room(pattern: &[u8]) -> Vec<u8> {
+    let outcome = both(&Case::new(Operation::Compile, &[pattern])).expect("one outcome");
+    assert_eq!(outcome.answer, (0, 0, 0));
+    outcome.after.output
+}
+
+#[test]
+fn all_short_texts_compiled() {
+    all(
+        "all texts of up to 4 of 13 pattern bytes",
+        small::compiling(4),
+    );
+    all(
+        "all texts of up to 5 bytes of hex escapes and ranges",
+        small::hex(5),
+    );
+}
+
+#[test]
+fn all_short_strings_matched() {
+    let mut count = 0;
+    for pattern in small::taken(4) {
+        let room = room(&pattern);
+        let mut language = Language::new(&judge(&pattern).expect("a taken pattern"));
+        for text in strings(b"abc", 3) {
+            let answer = palgondur::raw::match_text(&room, &text);
+            assert_eq!(
+                answer,
+                language.answer(&text),
+                "{} {}",
+                pattern.escape_ascii(),
+                text.escape_ascii()
+            );
+            assert_eq!(answer.0 == 0, language.has(&text));
+            count += 1;
+        }
+    }
+    say(format!("agree: {count} cases, all texts of up to 3 letters by all taken patterns of up to 4 bytes, against derivatives"));
+}
+
+#[test]
+fn all_pairs_compared() {
+    let mut rooms: Vec<Vec<u8>> = small::taken(3)
+        .iter()
+        .map(|pattern| room(pattern))
+        .collect();
+    rooms.sort();
+    rooms.dedup();
+    let pairs = rooms.iter().flat_map(|left| {
+        let case = move |right: &Vec<u8>| Case::new(Operation::Compare, &[left, right]);
+        rooms.iter().map(case)
+    });
+    all("all pairs of rooms of patterns of up to 3 bytes", pairs);
+}
+
+#[test]
+fn all_small_machines() {
+    let machines = || {
+        let sizes = [
+            (1, 1, 0),
+            (1, 2, 1),
+            (2, 1, 0),
+            (2, 2, 0),
+            (2, 2, 1),
+            (3, 1, 0),
+            (3, 2, 1),
+        ];
+        sizes
+            .into_iter()
+            .flat_map(|(states, classes, class)| small::machines(states, classes, class))
+    };
+    let by = |operation: Operation| {
+        machines().map(move |machine| Case::new(operation, &[&machine.room()]))
+    };
+    all(
+        "all machines of up to 3 states and 2 classes minimised",
+        by(Operation::Minimise),
+    );
+    all(
+        "all machines of up to 3 states and 2 classes packed",
+        by(Operation::Pack),
+    );
+    let forms =
+        machines().map(|machine| Case::new(Operation::Unpack, &[&second::form::packed(&machine)]));
+    all(
+        "the forms of all machines of up to 3 states and 2 classes unpacked",
+        forms,
+    );
+}
+
+#[test]
+fn all_lengths_of_buffers() {
+    let (good, other) = (room(b"a*b"), room(b"a*bb"));
+    let mut bad = good.clone();
+    bad[8577] = 1;
+    let mut double = good.clone();
+    double[0] += 1;
+    let form = second::form::packed(&second::machine(b"a*b").expect("a taken pattern"));
+    let long = b"*".repeat(limits::PATTERN + 1);
+    let exact = form_length(usize::from(good[0]), usize::from(good[1]));
+    let mut cases = Vec::new();
+    for pattern in [&b"a*b"[..], b"a|", b"[b-a]", &long, b""] {
+        cases.extend(small::buffers(Operation::Compile, &[pattern], limits::ROOM));
+    }
+    for room in [&good, &bad, &double] {
+        cases.extend(small::buffers(Operation::Minimise, &[room], limits::ROOM));
+        cases.extend(small::buffers(Operation::Match, &[room, b"aab"], 0));
+        cases.extend(small::buffers(Operation::Pack, &[room], exact));
+        cases.extend(small::buffers(
+            Operation::Compare,
+            &[&good, room],
+            limits::WORD,
+        ));
+        cases.extend(small::buffers(
+            Operation::Compare,
+            &[room, &other],
+            limits::WORD,
+        ));
+    }
+    for form in [&form[..], &form[1..], b""] {
+        cases.extend(small::buffers(Operation::Unpack, &[form], limits::ROOM));
+    }
+    all(
+        "all buffers short, exact and longer, zero and dirty",
+        cases.into_iter(),
+    );
+}
