@@ -79,7 +79,7 @@ fn expect(found: impl fmt::Display, says: &[&str]) -> Result<(), String> {
 fn compiled(pattern: &str) -> Result<Vec<u8>, String> {
     let outcome = outcome(Operation::Compile, &[&bytes(pattern)?])?;
     match outcome.answer {
-        (0, _, _) => Ok(outcome.after.output),
+        (0, _, _) => Ok(outcome.output),
         answer => Err(format!("{pattern} is refused: {answer:?}")),
     }
 }
@@ -91,7 +91,7 @@ fn pattern(row: &[&str]) -> Result<(), String> {
     if number != 0 {
         return expect(format!("refused {number} {place}"), &row[2..]);
     }
-    let (states, classes, length) = packed(&outcome.after.output)?;
+    let (states, classes, length) = packed(&outcome.output)?;
     expect(format!("taken {states} {classes} {length}"), &row[2..])
 }
 
@@ -102,8 +102,8 @@ fn packed(room: &[u8]) -> Result<(u8, u8, usize), String> {
     if number != 0 || length != form_length(usize::from(room[0]), usize::from(room[1])) {
         return Err(format!("packing answers {number}, length {length}"));
     }
-    let back = outcome(Operation::Unpack, &[&pack.after.output[..length]])?;
-    if back.answer.0 != 0 || back.after.output != room {
+    let back = outcome(Operation::Unpack, &[&pack.output[..length]])?;
+    if back.answer.0 != 0 || back.output != room {
         return Err("unpacking gives another room".to_string());
     }
     Ok((room[0], room[1], length))
@@ -157,7 +157,7 @@ fn compared(left: &str, right: &str) -> Result<(String, usize), String> {
     match number {
         0 => Ok(("same".to_string(), rounds)),
         66 => Ok((
-            format!("separated {}", hex(&outcome.after.output[..length])),
+            format!("separated {}", hex(&outcome.output[..length])),
             rounds,
         )),
         _ => Err(format!("comparing is refused: {number}")),
@@ -201,7 +201,7 @@ fn room(row: &[&str]) -> Result<(), String> {
 /// `PATTERN CHANGE -> NUMBER`: unpacking the pattern's form after a change: `whole`, `flip:BIT`, `cut:BYTES`, `more:HEX`.
 fn form(row: &[&str]) -> Result<(), String> {
     let pack = outcome(Operation::Pack, &[&compiled(row[0])?])?;
-    let mut form = pack.after.output[..pack.answer.1].to_vec();
+    let mut form = pack.output[..pack.answer.1].to_vec();
     let (kind, number) = row[1].split_once(':').unwrap_or((row[1], "0"));
     let number: usize = number.parse().map_err(|_| "not a number")?;
     match kind {

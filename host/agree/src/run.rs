@@ -7,19 +7,19 @@ use crate::case::{Case, Operation};
 /// The answer's number, and its place or length, and its rounds; 0 where it has none.
 pub type Answer = (u8, usize, usize);
 
-/// What a case leaves: the answer, and everything that was lent, as it is afterwards.
+/// What both sides make of a case: the answer, and what was written, as it is afterwards.
 #[derive(Clone, PartialEq, Eq, Debug)]
 pub struct Outcome {
     pub answer: Answer,
-    pub after: Case,
+    pub output: Vec<u8>,
 }
 
-/// The two sides give different outcomes of a case.
+/// The two sides make different things of a case: the answers, the library's first, and in words where buffers differ.
 #[derive(Debug)]
 pub struct Difference {
     pub case: Case,
-    pub library: Outcome,
-    pub second: Outcome,
+    pub answers: (Answer, Answer),
+    pub places: Vec<String>,
 }
 
 type Compile = fn(&[u8], &mut [u8], &mut [u8], &mut [u64]) -> (u8, usize);
@@ -58,18 +58,18 @@ const SECOND: Side = Side {
 const GUARD: usize = 32;
 
 /// A copy of what is lent, with a guard on either side that nothing may touch.
+#[derive(PartialEq)]
 struct Guarded<T> {
     whole: Vec<T>,
-    guard: T,
 }
 
-impl<T: Copy + PartialEq> Guarded<T> {
+impl<T: Copy + PartialEq + fmt::Debug> Guarded<T> {
     fn new(content: &[T], guard: T) -> Guarded<T> {
         let mut whole = Vec::with_capacity(content.len() + 2 * GUARD);
         whole.resize(GUARD, guard);
         whole.extend_from_slice(content);
         whole.resize(content.len() + 2 * GUARD, guard);
-        Guarded { whole, guard }
+        Guarded { whole }
     }
 
     fn lent(&mut self) -> &mut [T] {
@@ -77,95 +77,96 @@ impl<T: Copy + PartialEq> Guarded<T> {
         &mut self.whole[GUARD..end]
     }
 
-    /// What was lent, as it is now.
-    fn after(mut self) -> Vec<T> {
-        let end = self.whole.len() - GUARD;
-        let mut guards = self.whole[..GUARD].iter().chain(&self.whole[end..]);
-        let kept = guards.all(|&value| value == self.guard);
-        assert!(kept, "something was written outside of what was lent");
-        self.whole.truncate(end);
-        self.whole.drain(..GUARD);
-        self.whole
+    /// In words, the first place where the library's copy differs from the second program's; one below 0 or past the end is in a guard.
+    fn differs(&self, second: &Guarded<T>, name: &str) -> Option<String> {
+        let mut pairs = self.whole.iter().zip(&second.whole);
+        let at = pairs.position(|(one, other)| one != other)?;
+        let (one, other) = (self.whole[at], second.whole[at]);
+        let place = at as isize - GUARD as isize;
+        Some(format!(
+            "{name} at {place}: library {one:?}, second program {other:?}"
+        ))
     }
 }
 
-/// Runs a case on a side, on a copy.
-fn run(side: &Side, case: &Case) -> Outcome {
-    let mut reads: Vec<Guarded<u8>> = case
-        .reads
-        .iter()
-        .map(|read| Guarded::new(read, 0xc3))
-        .collect();
-    let mut output = Guarded::new(&case.output, 0x3c);
-    let mut bytes = Guarded::new(&case.bytes, 0x99);
-    let mut words = Guarded::new(&case.words, 0x6666);
-    let answer = {
-        let lent: Vec<&[u8]> = reads.iter_mut().map(|read| &*read.lent()).collect();
-        let (output, bytes, words) = (output.lent(), bytes.lent(), words.lent());
-        let placed = |(number, place)| (number, place, 0);
-        match case.operation {
-            Operation::Compile => placed((side.compile)(lent[0], output, bytes, words)),
-            Operation::Minimise => ((side.minimise)(lent[0], output, bytes, words), 0, 0),
-            Operation::Match => placed((side.match_text)(lent[0], lent[1])),
-            Operation::Compare => (side.compare)(lent[0], lent[1], output, bytes, words),
-            Operation::Pack => placed((side.pack)(lent[0], output, bytes, words)),
-            Operation::Unpack => ((side.unpack)(lent[0], output, bytes, words), 0, 0),
+/// All that a case lends, as a copy for one side.
+#[derive(PartialEq)]
+struct Lent {
+    reads: Vec<Guarded<u8>>,
+    output: Guarded<u8>,
+    bytes: Guarded<u8>,
+    words: Guarded<u64>,
+}
+
+impl Lent {
+    fn new(case: &Case) -> Lent {
+        let reads = case.reads.iter();
+        Lent {
+            reads: reads.map(|read| Guarded::new(read, 0xc3)).collect(),
+            output: Guarded::new(&case.output, 0x3c),
+            bytes: Guarded::new(&case.bytes, 0x99),
+            words: Guarded::new(&case.words, 0x6666),
         }
-    };
-    let after = Case {
-        operation: case.operation,
-        reads: reads.into_iter().map(Guarded::after).collect(),
-        output: output.after(),
-        bytes: bytes.after(),
-        words: words.after(),
-    };
-    Outcome { answer, after }
+    }
+
+    /// Runs the operation of one side on what is lent.
+    fn run(&mut self, operation: Operation, side: &Side) -> Answer {
+        let mut reads = self.reads.iter_mut().map(|read| &*read.lent());
+        let (read, other) = (reads.next().unwrap_or(&[]), reads.next().unwrap_or(&[]));
+        let (output, bytes) = (self.output.lent(), self.bytes.lent());
+        let words = self.words.lent();
+        let placed = |(number, place)| (number, place, 0);
+        match operation {
+            Operation::Compile => placed((side.compile)(read, output, bytes, words)),
+            Operation::Minimise => ((side.minimise)(read, output, bytes, words), 0, 0),
+            Operation::Match => placed((side.match_text)(read, other)),
+            Operation::Compare => (side.compare)(read, other, output, bytes, words),
+            Operation::Pack => placed((side.pack)(read, output, bytes, words)),
+            Operation::Unpack => ((side.unpack)(read, output, bytes, words), 0, 0),
+        }
+    }
+
+    /// In words, where the library's copies differ from the second program's.
+    fn differs(&self, second: &Lent) -> Vec<String> {
+        let reads = self.reads.iter().zip(&second.reads);
+        let reads = reads.map(|(one, other)| one.differs(other, "input"));
+        let places = [
+            self.output.differs(&second.output, "output"),
+            self.bytes.differs(&second.bytes, "scratch byte"),
+            self.words.differs(&second.words, "scratch word"),
+        ];
+        reads.chain(places).flatten().collect()
+    }
 }
 
 /// Runs a case on both sides: the outcome that they share, or their difference.
 pub fn both(case: &Case) -> Result<Outcome, Box<Difference>> {
-    let library = run(&LIBRARY, case);
-    let second = run(&SECOND, case);
-    if library == second {
-        return Ok(second);
+    let (mut library, mut second) = (Lent::new(case), Lent::new(case));
+    let answers = (
+        library.run(case.operation, &LIBRARY),
+        second.run(case.operation, &SECOND),
+    );
+    if answers.0 == answers.1 && library == second {
+        let (answer, output) = (answers.0, second.output.lent().to_vec());
+        return Ok(Outcome { answer, output });
     }
     Err(Box::new(Difference {
         case: case.clone(),
-        library,
-        second,
+        answers,
+        places: library.differs(&second),
     }))
-}
-
-/// The first place where two buffers differ, in words.
-fn first<T: PartialEq + fmt::Debug>(name: &str, library: &[T], second: &[T]) -> Option<String> {
-    let at = library
-        .iter()
-        .zip(second)
-        .position(|(one, other)| one != other)?;
-    Some(format!(
-        "{name} at {at}: library {:?}, second program {:?}",
-        library[at], second[at]
-    ))
 }
 
 impl fmt::Display for Difference {
     fn fmt(&self, out: &mut fmt::Formatter) -> fmt::Result {
+        let (library, second) = self.answers;
         writeln!(out, "{}", self.case)?;
-        let (library, second) = (&self.library.after, &self.second.after);
-        let answers = (self.library.answer, self.second.answer);
-        if answers.0 != answers.1 {
-            let (one, other) = answers;
-            writeln!(out, "  answer: library {one:?}, second program {other:?}")?;
-        }
-        let places = [
-            first("output", &library.output, &second.output),
-            first("scratch byte", &library.bytes, &second.bytes),
-            first("scratch word", &library.words, &second.words),
-            first("input", &library.reads, &second.reads),
-        ];
-        for place in places.iter().flatten() {
-            writeln!(out, "  {place}")?;
-        }
-        Ok(())
+        writeln!(
+            out,
+            "  answer: library {library:?}, second program {second:?}"
+        )?;
+        self.places
+            .iter()
+            .try_for_each(|place| writeln!(out, "  {place}"))
     }
 }
