@@ -6,7 +6,7 @@ use crate::{number, say};
 
 /// The seed and the number of cases of a run that names none.
 const SEED: u64 = 20_260;
-const CASES: u64 = 25_000;
+const CASES: u64 = 20_000;
 
 #[test]
 fn drawn_cases() {

@@ -33,8 +33,8 @@ fn all_short_texts_compiled() {
         small::compiling(4),
     );
     all(
-        "all texts of up to 5 bytes of hex escapes and ranges",
-        small::hex(5),
+        "all texts of up to 4 bytes of hex escapes and ranges",
+        small::hex(4),
     );
 }
 
