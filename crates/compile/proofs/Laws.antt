@@ -24,7 +24,7 @@ use Rattle.scope.specs.Re.{Re, Words}
 use Rattle.scope.specs.Room.{machine}
 use Rattle.scope.specs.Tree.{expr}
 use Rattle.slices.specs.Parts.{Stored}
-use Rattle.slices.proofs.Laws.{all-kept}
+use Rattle.slices.proofs.Laws.{all-kept, part-all}
 use Rattle.sets.specs.Value.{value, setAt, Put}
 use Rattle.sets.proofs.Words.{put-other}
 use Rattle.pattern.specs.Held.{held}
@@ -34,7 +34,6 @@ use Rattle.pattern.proofs.Whole.{places-size}
 use Rattle.determinise.specs.Layout.{imageAt, setsAt}
 use Rattle.determinise.specs.Build.{Given, Made, Outcome, Builds}
 use Rattle.determinise.specs.declared.Built.{Built}
-use Rattle.determinise.proofs.Givens.{part-all}
 use Rattle.judge.specs.declared.Judged.{Judged}
 use Rattle.judge.specs.Judges.{Judges, legal, syntax, range, depth, positions}
 use Rattle.compile.specs.Passes.{Reads, Answers}

@@ -3,7 +3,7 @@
 --   mask-holders, like-share: the mask of a byte, and when two bytes share a class
 --   few-classes, many-classes: a grouping, or one that is refused, is one of the pattern classes
 --   mapped: the classes of a grouping
---   part-all, part-length, put-all, put-tail: a part of the bytes, lent and written
+--   part-length, put-all, put-tail: a part of the bytes, lent and written
 --   built, built-classes: the answer
 use Prim.Native.Nat.{ℕ, _+_, _-_, _^_, _≤_, _<_}
 use mathlib.Core.Path.{_≡_, sym, ap, subst, _∙_}
@@ -16,7 +16,7 @@ use borrow.Rule.Slice.PartMut.{putMid, postOf, same-len-mid}
 use lib.Bits.{bitOr}
 use lib.Dec.{lit<}
 use lib.ListN.{length, getD, take, drop, length-drop}
-use lib.Seq.{take-all, length-take-le, drop-at, drop-length, getD-drop}
+use lib.Seq.{length-take-le, drop-at, drop-length, getD-drop}
 use Rattle.scope.specs.Limits.{byteValues, classLimit, positionLimit, roomBytes}
 use Rattle.scope.specs.Re.{Re, size}
 use Rattle.scope.specs.Bits.{has, given, holders, final}
@@ -28,6 +28,7 @@ use Rattle.scope.proofs.Glushkov.{at-in}
 use Rattle.scope.proofs.Moves.{same-bits, joined-is}
 use Rattle.scope.proofs.Tests.{Tests, and, itself, equals, same-test, bit-same}
 use Rattle.scope.proofs.Buffers.{all-kept}
+use Rattle.slices.proofs.Laws.{part-all}
 use Rattle.determinise.specs.Layout.{imageAt, bitAt, holds}
 use Rattle.determinise.specs.Group.{Like, Grouped, GroupAnswer}
 use Rattle.determinise.specs.Masks.{maskOf, Masked}
@@ -104,9 +105,6 @@ mapped c = record {
 }
 
 -- ---- the part of the bytes from a on, lent, and written to ys
-
-pub part-all : (a : ℕ) (s : List ℕ) → take (length s - a) (drop a s) ≡ drop a s
-part-all a s = take-all (length s - a) (drop a s) (omega (arith, length-drop a s))
 
 -- how long the part is
 pub part-length : (a : ℕ) (s : List ℕ) → length (take (length s - a) (drop a s)) ≡ length s - a

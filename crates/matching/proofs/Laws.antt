@@ -1,27 +1,29 @@
 -- A prefix is completable exactly if the state that it leads to is live. From a live state the rest of a text can be taken back: if the whole text leads
 -- to a live state, so does every prefix.
+--   Stepped m cells q b, stepped: the cell for a state and a byte, in the part of a room that begins at its first cell
 --   known-bytes: elements below 256 are a string of bytes
 --   At M s i q: the first i bytes of s lead to the state q; at-start, at-more, at-end: none, one more, all
 --   accepting, not-accepting: what the mark of the last state says
 --   live-prefix, prefix-live: completable and live are the same
 --   alive: every prefix of a text that leads to a live state is completable
 --   inside: a prefix that leads to a live state is not the whole of a text that leads to a dead one
-use Prim.Native.Nat.{ℕ, suc, _+_, _≤_, _<_}
-use mathlib.Core.Path.{_≡_, refl, sym}
+use Prim.Native.Nat.{ℕ, suc, _+_, _*_, _≤_, _<_}
+use mathlib.Core.Path.{_≡_, refl, sym, ap}
 use mathlib.Core.Logic.{inl, inr}
 use mathlib.Core.List.{List, [], _∷_, _++_, append-assoc}
 use native.Mathlib.Omega.{arith}
 use native.Mathlib.Numerals.{add-one}
-use lib.ListN.{length, getD, take, drop, take-append-drop}
+use lib.ListN.{length, getD, take, drop, length-drop, take-append-drop}
 use lib.Seq.{take-suc, take-all, getD-drop}
-use Rattle.scope.specs.Limits.{byteValues}
+use Rattle.scope.specs.Limits.{byteValues, classesAt, cellsAt, roomBytes}
 use Rattle.scope.specs.Bytes.{Bytes}
 use Rattle.scope.specs.Machine.{Machine, run, Accepts, Completable}
-use Rattle.scope.specs.Room.{markOf, machine}
+use Rattle.scope.specs.Room.{statesOf, classesOf, classOf, markOf, cellOf, nextOf, machine, Sound}
 use Rattle.scope.specs.Match.{Alive}
 use Rattle.scope.proofs.Tests.{split, equals}
 use Rattle.scope.proofs.Run.{run-append, bytes-append}
 use Rattle.room.specs.Live.{Live}
+use Rattle.room.proofs.Laws.{cell-known}
 
 -- elements below 256 are a string of bytes
 pub known-bytes : (s : List ℕ) → ((i : ℕ) → getD s i 0 < byteValues) → Bytes s
@@ -78,3 +80,30 @@ module _ (M : Machine) where
 -- a prefix that leads to a live state is not the whole of a text that leads to a dead one
 pub inside : {M : Machine} {s : List ℕ} {i q : ℕ} → At M s i q → (Live M (run M 0 s) → ⊥) → Live M q → i < length s
 inside {s = s} {i = i} a d l = elim (split i (length s)) [ inl x ↦ x | inr x ↦ absurd (d (rw (at-end a x) at l)) ]
+
+-- the cell for a state and a byte, in the part of a room that begins at its first cell
+pub record Stepped (m cells : List ℕ) (q b : ℕ) : Type 0 where
+  pub class : classOf m b < classesOf m
+  pub small : q * classesOf m + classOf m b < roomBytes
+  pub within : q * classesOf m + classOf m b < length cells
+  pub cell : getD cells (q * classesOf m + classOf m b) 0 ≡ nextOf m q b
+  pub state : getD cells (q * classesOf m + classOf m b) 0 < statesOf m
+
+pub stepped : {m cells : List ℕ} → Sound m → cells ≡ drop cellsAt m → (q b : ℕ) → q < statesOf m → b < byteValues → Stepped m cells q b
+unfolding nextOf
+stepped {m} {cells} s e q b h g = record {
+  class = class;
+  small = omega (arith, known);
+  within = omega (arith, known, s .long, ap length e, length-drop cellsAt m);
+  cell = cell;
+  state = rw cell (known .1);
+}
+  where
+    class : classOf m b < classesOf m
+    class = s .classes (classesAt + b) (omega arith) (omega arith)
+
+    known : (cellsAt + (q * classesOf m + classOf m b) < roomBytes) × (cellOf m q (classOf m b) < statesOf m)
+    known = cell-known s q (classOf m b) h class
+
+    cell : getD cells (q * classesOf m + classOf m b) 0 ≡ cellOf m q (classOf m b)
+    cell = rw e (getD-drop cellsAt m (q * classesOf m + classOf m b) 0)

@@ -3,10 +3,12 @@ use scope::Machine;
 use scope::Matched;
 ghost use mathlib.Core.Path.{_≡_};
 ghost use Prim.Native.Nat.{_<_};
+ghost use lib.ListN.{drop};
 ghost use Rattle.scope.specs.Answers.{matchedNumber, matchedPlace};
 ghost use Rattle.scope.specs.Machine.{run};
 ghost use Rattle.scope.specs.Match.{DeadAt, Matches};
-ghost use Rattle.scope.specs.Room.{statesOf, machine, Sound};
+ghost use Rattle.scope.specs.Limits.{cellsAt};
+ghost use Rattle.scope.specs.Room.{statesOf, nextOf, machine, Sound};
 ghost use Rattle.room.specs.Live.{Live, LiveMarks};
 
 // Judges the room, and answers how the text stands: accepted, dead from a place on, or unfinished.
@@ -38,15 +40,26 @@ fn match_sound(room: &[u8], text: &[u8]) -> Matched
     Matched::Dead(first_dead(room, text, &live))
 }
 
+// The state to which the byte b leads from the state q. `cells` is the room from its first cell on: where one cell is, is then one product and one sum.
+fn step(room: &[u8], cells: &[u8], q: usize, b: u8) -> usize
+    requires { ⌜ Sound (now room) × (q < statesOf (now room)) × (now cells ≡ drop cellsAt (now room)) ⌝ }
+    ensures { λ r. ⌜ (r ≡ nextOf (now (room .entry)) q b) × (r < statesOf (now (room .entry))) ⌝ }
+{
+    let k = room[1] as usize;
+    let class = room[Machine::CLASSES_AT + b as usize] as usize;
+    cells[q * k + class] as usize
+}
+
 // The state to which the text leads.
 fn last_state(room: &[u8], text: &[u8]) -> usize
     requires { ⌜ Sound (now room) ⌝ }
     ensures { λ r. ⌜ (r ≡ run (machine (now (room .entry))) 0 (now (text .entry))) × (r < statesOf (now (room .entry))) ⌝ }
 {
+    let cells = &room[Machine::CELLS_AT..];
     let mut q: usize = 0;
     let mut i: usize = 0;
     while i < text.len() {
-        q = room::step(room, q, text[i]);
+        q = step(room, cells, q, text[i]);
         i += 1;
     }
     q

@@ -3,16 +3,17 @@
 --   stored-none, stored-more, stored-written: nothing stored; one element more; stored from the start on, as scope says it
 --   alike-more, alike-not: the comparison so far, with one element more that is the same, or not
 --   most-new, most-old: a bound of the elements so far, with one element more that is above it, or not
+--   part-all: a part that goes to the end is what is left
 --   cleared-after: the scratch in the end, whatever was written before; all-kept, of scope: what is not touched
-use Prim.Native.Nat.{ℕ, _+_, _≤_, _<_}
+use Prim.Native.Nat.{ℕ, _+_, _-_, _≤_, _<_}
 use mathlib.Core.Path.{_≡_, refl, _∙_}
 use mathlib.Core.Bool.{Bool, true, false, false≢true, true≢false}
 use mathlib.Core.Logic.{inl, inr, ⊎-elim}
 use mathlib.Core.List.{List}
 use native.Mathlib.Omega.{arith}
 use borrow.Author.Count.{below-more}
-use lib.ListN.{length, getD, set, length-set}
-use lib.Seq.{getD-set-same, getD-set-other}
+use lib.ListN.{length, getD, set, take, drop, length-set, length-drop}
+use lib.Seq.{getD-set-same, getD-set-other, take-all}
 use Rattle.scope.specs.Limits.{scratchBytes, scratchWords}
 use Rattle.scope.specs.Buffers.{Written, TailKept, Cleared}
 pub use Rattle.scope.proofs.Buffers.{all-kept}
@@ -81,3 +82,7 @@ cleared-after h k s t c = record { bytes-zero = over h s (c .bytes-zero); words-
   where
     over : {n m : ℕ} {f : ℕ → ℕ} {x y z : List ℕ} → n ≤ m → TailKept n x y → Written m f y z → Written m f x z
     over h s w = record { size = w .size ∙ s .size; inside = w .inside; outside = λ i k. w .outside i k ∙ s .outside i (omega arith) }
+
+-- a part from a on that goes to the end is what is left
+pub part-all : (a : ℕ) (s : List ℕ) → take (length s - a) (drop a s) ≡ drop a s
+part-all a s = take-all (length s - a) (drop a s) (omega (arith, length-drop a s))
