@@ -1,5 +1,5 @@
--- What was read. No contract can say what the input is; what was taken is right for the input that there was.
---   Read t left right: some input was read, and its two lines are what was taken
+-- What was taken. No contract can say what the input is, so none here ties these lines to it: that is seen in `take_lines` itself, and in the stored runs.
+--   Read t left right: what was taken are the two lines of some input, and not bytes of no line
 --   Lines t left right: so it is, in two buffers that have one byte more than a pattern may have
 use Prim.Native.Nat.{ℕ, _+_}
 use mathlib.Core.Path.{_≡_}
