@@ -1,7 +1,7 @@
 -- The classes that hold a byte, listed once each: as many as are seen, hence at most 64.
 --   Listed m seen l n i: the list after the bytes of the room up to the place i
 --   listed-none, listed-old, listed-new: no byte; one more whose class was seen, or was not
---   listed-holding: after all 256 bytes
+--   listed-holding, listed-full: after all 256 bytes, or with all classes
 --   class-fits, list-fits: a class, and a place of the list, is below 64
 --   class-below: a listed class is below k
 --   leads-by, leads-not: a state leads to a marked one exactly if one of the cells for these classes holds one
@@ -17,7 +17,7 @@ use Rattle.scope.specs.Limits.{byteValues, classLimit, classesAt, marksAt}
 use Rattle.scope.specs.Room.{classesOf, classOf, cellOf, nextOf, Sound}
 use Rattle.scope.proofs.Lists.{zeros}
 use Rattle.room.specs.Live.{Holding, Leads, ones}
-use Rattle.room.proofs.Alive.{ones-set, ones-most}
+use Rattle.room.proofs.Alive.{ones-set, ones-most, ones-below}
 
 pub record Listed (m seen l : List ℕ) (n i : ℕ) : Type 0 where
   pub size : length l ≡ classLimit
@@ -110,6 +110,32 @@ listed-holding {m} {seen} r = record {
   byte = r .byte;
   all = λ b h. r .place (classOf m b) (r .done (classesAt + b) (omega arith) (omega arith));
 }
+
+-- or after as many as there are classes: no other is left
+pub listed-full : {m seen l : List ℕ} {n i : ℕ} → Sound m → Listed m seen l n i → classesOf m ≤ n → Holding m l n
+listed-full {m} {seen} {l} {n} s r full = record {
+  size = r .size;
+  few = omega (arith, ones-most seen (r .small), r .number, r .places);
+  byte = r .byte;
+  all = λ b h. r .place (classOf m b) (is-seen (classOf m b) (s .classes (classesAt + b) (omega arith) (omega arith)));
+}
+  where
+    used : (c : ℕ) → getD seen c 0 ≡ 1 → c < classesOf m
+    used c e = let (j, g, x) = r .place c e in let (b, h, y) = r .byte j g in rw (← x, ← y) (s .classes (classesAt + b) (omega arith) (omega arith))
+
+    is-seen : (c : ℕ) → c < classesOf m → getD seen c 0 ≡ 1
+    is-seen c h = elim (ℕ-discrete (getD seen c 0) 0) [
+      | yes e ↦ absurd (omega (arith, s .few-classes, full, r .number, most, ones-set seen c (omega (arith, s .few-classes, r .places)) e))
+      | no e ↦ omega (arith, r .small c)
+    ]
+      where
+        at : getD (set seen c 1) c 0 ≡ 1
+        at = getD-set-same seen c 1 0 (omega (arith, h, s .few-classes, r .places))
+
+        most : ones (set seen c 1) ≤ classesOf m
+        most = ones-below (set seen c 1) (classesOf m)
+            (λ d. elim (ℕ-discrete d c) [ yes e ↦ rw (e, at) (omega arith) | no e ↦ rw (getD-set-other seen c d 1 0 e) (r .small d) ])
+            (λ d g. rw (getD-set-other seen c d 1 0 (λ e. omega (arith, h))) (elim (ℕ-discrete (getD seen d 0) 1) [ yes e ↦ absurd (omega (arith, used d e)) | no e ↦ omega (arith, r .small d) ]))
 
 -- ---- the cells of these classes
 

@@ -14,16 +14,17 @@ pub struct Classes {
     pub count: usize,
 }
 
-// The classes that hold a byte, each once.
+// The classes that hold a byte, each once. Where all k are found, no byte more is read.
 pub fn holding(room: &[u8]) -> Classes
     requires { ⌜ Sound (now room) ⌝ }
     ensures { λ r. ⌜ Holding (now (room .entry)) (r .list) (r .count) ⌝ }
 {
+    let k = room[1] as usize;
     let mut seen = [0u8; Machine::CLASSES];
     let mut list = [0u8; Machine::CLASSES];
     let mut count: usize = 0;
     let mut i: usize = Machine::CLASSES_AT;
-    while i < Machine::MARKS_AT {
+    while i < Machine::MARKS_AT && count < k {
         let class = room[i];
         if seen[class as usize] == 0 {
             seen[class as usize] = 1;

@@ -4,59 +4,57 @@ use mathlib.Core.Path.{_≡_}
 use mathlib.Core.Logic.{⊎-elim}
 use native.Mathlib.Omega.{arith}
 use borrow.Author.Needs.{needs}
+use borrow.Author.Tests.{ltb-false}
 use Rattle.scope.specs.Limits.{classesAt, marksAt}
-use Rattle.room.proofs.Listed.{Listed, listed-none, listed-old, listed-new, class-fits, list-fits, listed-holding}
+use Rattle.room.proofs.Listed.{Listed, listed-none, listed-old, listed-new, class-fits, list-fits, listed-holding, listed-full}
 use Rattle.room.proofs.marks.holding.Statement.{statement}
 use Rattle.room.proofs.marks.holding.Tie as tie
 
 abbrev Inv-loop : tie.InvT-loop
-Inv-loop room seen₀ list₀ count₀ i₀ seen list count i = (classesAt ≤ i) × (i ≤ marksAt) × Listed room seen list count i
+Inv-loop room k seen₀ list₀ count₀ i₀ seen list count i = (classesAt ≤ i) × (i ≤ marksAt) × Listed room seen list count i
 
 abbrev μ-loop : tie.MeasureT-loop
-μ-loop room seen₀ list₀ count₀ i₀ seen list count i = marksAt - i
+μ-loop room k seen₀ list₀ count₀ i₀ seen list count i = marksAt - i
+
+cast-k : tie.Need-cast-k Inv-loop μ-loop
+cast-k c = omega (arith, c .shared-slice-known .given 1)
 
 loop-holds : tie.Need-loop-holds Inv-loop μ-loop
 loop-holds c = (search needs, search needs, listed-none _)
 
-shared-slice-read-class : tie.Need-shared-slice-read-class Inv-loop μ-loop
-shared-slice-read-class c = search needs
+cast-if2 : tie.Need-cast-if2 Inv-loop μ-loop
+cast-if2 c = omega (arith, class-fits (c .before .before .before .before .before .pre) (c .before .before .before .loop .i) (search needs) (search needs))
 
-cast-if1 : tie.Need-cast-if1 Inv-loop μ-loop
-cast-if1 c = omega (arith, class-fits (c .before .before .before .pre) (c .before .before .loop .i) (search needs) (search needs))
-
-array-read-if1 : tie.Need-array-read-if1 Inv-loop μ-loop
-array-read-if1 c = class-fits (c .before .before .before .pre) (c .before .before .loop .i) (search needs) (search needs)
+array-read-if2 : tie.Need-array-read-if2 Inv-loop μ-loop
+array-read-if2 c = class-fits (c .before .before .before .before .before .pre) (c .before .before .before .loop .i) (search needs) (search needs)
 
 cast-seen : tie.Need-cast-seen Inv-loop μ-loop
-cast-seen c = cast-if1 (c .before)
+cast-seen c = cast-if2 (c .before)
 
 array-write-seen : tie.Need-array-write-seen Inv-loop μ-loop
-array-write-seen c = array-read-if1 (c .before)
+array-write-seen c = array-read-if2 (c .before)
 
 array-write-list : tie.Need-array-write-list Inv-loop μ-loop
-array-write-list c = list-fits (c .before .before .before .before .pre) (search needs) (search needs) (c .if1 .taken) (c .before .before .before .loop .inv .2)
+array-write-list c = list-fits (c .before .before .before .before .before .before .pre) (search needs) (search needs) (c .if2 .taken) (c .before .before .before .before .loop .inv .2)
 
 add-count : tie.Need-add-count Inv-loop μ-loop
 add-count c = omega (arith, array-write-list c)
 
-add-i : tie.Need-add-i Inv-loop μ-loop
-add-i c = search needs
-
-loop-less : tie.Need-loop-less Inv-loop μ-loop
-loop-less c = search needs
-
 loop-again : tie.Need-loop-again Inv-loop μ-loop
 loop-again c =
-    let v = c .before .before .before .loop .inv .2 in (
+    let v = c .before .before .before .before .loop .inv .2 in (
       search needs,
       search needs,
       ⊎-elim
-          (λ w. rw (w .1, w .2, w .3) (listed-new (c .before .before .before .before .pre) (search needs) (search needs) (w .0 .taken) v))
-          (λ w. rw (w .1, w .2, w .3) (listed-old (w .0 .left) v)) (c .if1 .came),
+          (λ w. rw (w .1, w .2, w .3) (listed-new (c .before .before .before .before .before .before .pre) (search needs) (search needs) (w .0 .taken) v))
+          (λ w. rw (w .1, w .2, w .3) (listed-old (w .0 .left) v)) (c .if2 .came),
     )
 
 returns : tie.Need-returns Inv-loop μ-loop
-returns c = let e : c .before .loop .i ≡ marksAt = omega arith in listed-holding (rw e at (c .before .loop .inv .2))
+returns c = listed-full (c .before .before .before .before .pre) (c .before .before .loop .inv .2) (ltb-false _ _ (c .if1 .left))
+
+returns-2 : tie.Need-returns-2 Inv-loop μ-loop
+returns-2 c = let e : c .before .loop .i ≡ marksAt = omega arith in listed-holding (rw e at (c .before .loop .inv .2))
 
 pub holding-spec : {M : Type 1} → statement M
 holding-spec =
@@ -64,15 +62,18 @@ holding-spec =
     (tie.spec
     Inv-loop
     μ-loop
+    (λ c. search needs)
+    cast-k
     loop-holds
-    shared-slice-read-class
-    cast-if1
-    array-read-if1
+    (λ c. search needs)
+    cast-if2
+    array-read-if2
     cast-seen
     array-write-seen
     array-write-list
     add-count
-    add-i
-    loop-less
+    (λ c. search needs)
+    (λ c. search needs)
     loop-again
-    returns)
+    returns
+    returns-2)
