@@ -7,14 +7,14 @@
 // string. A byte leads where the least byte of its kind does, so only these are tried.
 use scope::Compared;
 use scope::Machine;
-ghost use Prim.Native.Nat.{_≤_};
+ghost use Prim.Native.Nat.{ℕ, _≤_};
 ghost use lib.ListN.{length};
 ghost use Rattle.scope.specs.Answers.{comparedNumber, comparedLength, comparedRounds};
 ghost use Rattle.scope.specs.Compare.{CompareLent, Compares};
 ghost use Rattle.scope.specs.Limits.{wordBytes};
 ghost use Rattle.scope.specs.Room.{Sound};
 ghost use Rattle.slices.specs.Parts.{Decides};
-ghost use Rattle.parts.specs.Kinds.{KindsOf};
+ghost use Rattle.parts.specs.Kinds.{Kinds};
 ghost use Rattle.compare.specs.Word.{Apart, Between, Spells, Holds, Answers};
 
 // Whether the two rooms, the string room and the scratch are long enough.
@@ -67,16 +67,15 @@ fn spell(
     part: &[u16; parts::STATES],
     parent: &[u16; parts::STATES],
     born: &[u16; parts::STATES],
-    kinds: parts::ByteKinds,
+    least: &[u8; Machine::BYTES],
     long: usize,
     word: &mut [u8],
 )
     requires { ⌜ Spells (now left) (now right) (now part) (now parent) (now born) long ⌝ }
-    requires { ⌜ KindsOf (now left) (now right) (kinds .kind) (kinds .least) (kinds .count) ⌝ }
+    requires { ⌜ ((count : ℕ) × Kinds (now left) (now right) (now least) count) ⌝ }
     requires { ⌜ long ≤ length (now word) ⌝ }
     ensures { λ _. ⌜ Holds (now (left .entry)) (now (right .entry)) (now (word .entry)) (now (word .exit)) long ⌝ }
 {
-    let least = kinds.least;
     let mut p: usize = 0;
     let mut q = left[0] as usize;
     let mut at: usize = 0;
@@ -111,17 +110,30 @@ fn answer(left: &[u8], right: &[u8], word: &mut [u8]) -> Compared
     ensures { λ r. ⌜ Answers (now (left .entry)) (now (right .entry)) (now (word .entry)) (now (word .exit)) (comparedNumber r) (comparedLength r) (comparedRounds r) ⌝ }
 {
     let s = left[0] as usize;
-    let kinds = parts::kinds(left, right);
-    let refined = parts::refine(left, right, kinds, s + right[0] as usize);
-    let part = refined.part;
-    let rounds = refined.rounds;
+    let kinds = parts::kinds(left, right, Machine::BYTES);
+    let least = kinds.least;
+    let count = kinds.count;
+    let left_columns = parts::columns(left, &least, count);
+    let right_columns = parts::columns(right, &least, count);
+    let mut part = [0u16; parts::STATES];
+    let mut parent = [0u16; parts::STATES];
+    let mut born = [0u16; parts::STATES];
+    let rounds = parts::refine(
+        left,
+        right,
+        &left_columns,
+        &right_columns,
+        count,
+        s + right[0] as usize,
+        &mut part,
+        &mut parent,
+        &mut born,
+    );
     if part[0] == part[s] {
         return Compared::Same(rounds);
     }
-    let parent = refined.parent;
-    let born = refined.born;
     let long = distance(&part, &parent, &born, 0, s, rounds);
-    spell(left, right, &part, &parent, &born, kinds, long, word);
+    spell(left, right, &part, &parent, &born, &least, long, word);
     Compared::Separated(long, rounds)
 }
 

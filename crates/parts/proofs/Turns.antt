@@ -8,7 +8,7 @@
 --   rests-now, restless-now: a round that opens no part, or one
 --   tree-next, tree-kept: the tree after a round that opens a part, or none
 --   After M part parent born r: the rounds have come to r, and none of them rested
---   after-none, after-own, after-few, after-more, after-done: round 0; its names; how many rounds at most; one more; and the end
+--   after-none, after-copied, after-own, after-few, after-more, after-done: round 0; its names in another list; its names; how many rounds at most; one more; and the end
 use Prim.Native.Nat.{ℕ, suc, _+_, _-_, _≤_, _<_}
 use mathlib.Core.Path.{_≡_, refl, sym, _∙_}
 use mathlib.Core.Logic.{inl, inr}
@@ -167,6 +167,20 @@ after-none M part d = record {
     up = λ l. absurd (omega (arith, zeros 256 x));
   };
   restless = λ k h. absurd (omega arith);
+}
+
+-- only the names of the states count
+pub after-copied : {M : Machine} {new parent born : List ℕ} {r : ℕ} (part : List ℕ) → ((q : ℕ) → q < M .states → getD part q 0 ≡ getD new q 0) → After M new parent born r → After M part parent born r
+after-copied {parent = parent} part e a = record {
+  named = λ q h. rw (e q h) (a .named q h);
+  tree = λ x h y.
+      let b = a .tree x h (sym (e x h) ∙ y) in
+      record {
+        by = b .by;
+        fresh = b .fresh;
+        up = λ l. (let u = b .up l in record { below = u .below; name = e (getD parent x 0) (omega (arith, u .below)) ∙ u .name; older = u .older; like = u .like });
+      };
+  restless = a .restless;
 }
 
 module _ (M : Machine) (c : Closed M) (r : ℕ) (old parent born : List ℕ) (a : After M old parent born r) where

@@ -7,22 +7,21 @@
 // beside the parent, the part of a state after any earlier round is found by climbing.
 use scope::Machine;
 ghost use mathlib.Core.Path.{_≡_};
-ghost use Prim.Native.Nat.{_+_, _*_, _<_};
-ghost use lib.ListN.{length, getD};
+ghost use Prim.Native.Nat.{_+_, _*_, _≤_, _<_};
+ghost use lib.ListN.{length, getD, replicate};
 ghost use Rattle.scope.specs.Limits.{byteValues, classLimit, stateLimit};
-ghost use Rattle.scope.specs.Room.{statesOf, Sound};
+ghost use Rattle.scope.specs.Room.{statesOf, Below, Sound};
 ghost use Rattle.scope.specs.Rounds.{Together};
+ghost use Rattle.scope.specs.Buffers.{Written};
 ghost use Rattle.slices.specs.Parts.{Decides};
 ghost use Rattle.parts.specs.Side.{both, cellIn, markIn, side, Side};
-ghost use Rattle.parts.specs.Kinds.{pairOf, KindsOf, Used, ColumnsOf};
+ghost use Rattle.parts.specs.Kinds.{pairOf, stretch, Level, KindAt, Kinds, Most, Column, Used, ColumnsOf};
 ghost use Rattle.parts.specs.Parts.{First, Named, Renamed, Alike, Agree};
 ghost use Rattle.parts.specs.Round.{Chain, Opened, Births};
 ghost use Rattle.parts.specs.Refined.{Refined, Climbs, Climbed};
 
-// The most states that two rooms have, and the most pairs of classes.
+// The most states that two rooms have.
 pub const STATES: usize = Machine::STATES + Machine::STATES;
-
-const PAIRS: usize = Machine::CLASSES * Machine::CLASSES;
 
 // The state after q on the byte x.
 pub fn step(a: &[u8], b: &[u8], q: usize, x: u8) -> usize
@@ -38,9 +37,8 @@ pub fn step(a: &[u8], b: &[u8], q: usize, x: u8) -> usize
     }
 }
 
-// The kinds of the bytes by two rooms: the kind of each byte, and the least byte of each kind.
+// The kinds of the bytes by two rooms: the least byte of each.
 pub struct ByteKinds {
-    pub kind: [u8; Machine::BYTES],
     pub least: [u8; Machine::BYTES],
     pub count: usize,
 }
@@ -54,65 +52,85 @@ fn pair(a: &[u8], b: &[u8], x: usize) -> usize
     a[Machine::CLASSES_AT + x] as usize * Machine::CLASSES + b[Machine::CLASSES_AT + x] as usize
 }
 
-// The kinds of the bytes: of one kind are those with one class in a and one in b.
-pub fn kinds(a: &[u8], b: &[u8]) -> ByteKinds
+// The kind whose least byte has the pair of classes p, or their count if none has.
+fn find(a: &[u8], b: &[u8], least: &[u8; Machine::BYTES], count: usize, p: usize) -> usize
     requires { ⌜ Sound (now a) × Sound (now b) ⌝ }
-    ensures { λ r. ⌜ KindsOf (now (a .entry)) (now (b .entry)) (r .kind) (r .least) (r .count) ⌝ }
+    requires { ⌜ (count ≤ byteValues) × Below (now least) 0 count byteValues ⌝ }
+    ensures { λ r. ⌜ KindAt (now (a .entry)) (now (b .entry)) (now (least .entry)) count p r ⌝ }
 {
-    let mut kind = [0u8; Machine::BYTES];
-    let mut least = [0u8; Machine::BYTES];
-    let mut table = [0u8; PAIRS];
-    let mut count: usize = 1;
-    let mut x: usize = 1;
-    while x < Machine::BYTES {
-        let p = pair(a, b, x);
-        let mut i = table[p];
-        let y = least[i as usize] as usize;
-        if pair(a, b, y) != p {
-            i = count as u8;
-            table[p] = i;
-            least[count] = x as u8;
-            count += 1;
+    let mut i: usize = 0;
+    while i < count {
+        if pair(a, b, least[i] as usize) == p {
+            return i;
         }
-        kind[x] = i;
-        x += 1;
+        i += 1;
+    }
+    count
+}
+
+// How many bytes are passed over at once where their classes do not change.
+const STRETCH: usize = 16;
+
+// Whether each byte of the stretch from x on has the class of the byte before it.
+fn is_level(room: &[u8], x: usize) -> bool
+    requires { ⌜ Sound (now room) × (0 < x) × (x + stretch ≤ byteValues) ⌝ }
+    ensures { λ r. ⌜ Decides r (Level (now (room .entry)) x (x + stretch)) ⌝ }
+{
+    let mut level = true;
+    let mut y = x;
+    while y < x + STRETCH {
+        if room[Machine::CLASSES_AT + y] != room[Machine::CLASSES_AT - 1 + y] {
+            level = false;
+        }
+        y += 1;
+    }
+    level
+}
+
+// The kinds of the bytes, of which there are at most `most`: of one kind are those with one class in a and one in b. Most stretches of bytes are level.
+pub fn kinds(a: &[u8], b: &[u8], most: usize) -> ByteKinds
+    requires { ⌜ Sound (now a) × Sound (now b) ⌝ }
+    requires { ⌜ Most (now a) (now b) most ⌝ }
+    ensures { λ r. ⌜ Kinds (now (a .entry)) (now (b .entry)) (r .least) (r .count) ⌝ }
+{
+    let mut least = [0u8; Machine::BYTES];
+    let mut count: usize = 1;
+    let mut last = pair(a, b, 0);
+    let mut x: usize = 1;
+    while x < Machine::BYTES && count < most {
+        if x % STRETCH == 0 && is_level(a, x) && is_level(b, x) {
+            x += STRETCH;
+        } else {
+            let p = pair(a, b, x);
+            if p != last {
+                if find(a, b, &least, count, p) == count {
+                    least[count] = x as u8;
+                    count += 1;
+                }
+                last = p;
+            }
+            x += 1;
+        }
     }
     ByteKinds {
-        kind: kind,
         least: least,
         count: count,
     }
 }
 
-// The class of each kind in a and in b.
-struct Columns {
-    left: [u8; Machine::BYTES],
-    right: [u8; Machine::BYTES],
-    count: usize,
-}
-
-// The classes of the kinds.
-fn classes(a: &[u8], b: &[u8], bytes: ByteKinds) -> Columns
-    requires { ⌜ Sound (now a) × Sound (now b) ⌝ }
-    requires { ⌜ KindsOf (now a) (now b) (bytes .kind) (bytes .least) (bytes .count) ⌝ }
-    ensures { λ r. ⌜ ColumnsOf (now (a .entry)) (now (b .entry)) (r .left) (r .right) (r .count) ⌝ }
+// The column of each kind: the class of its least byte.
+pub fn columns(room: &[u8], least: &[u8; Machine::BYTES], count: usize) -> [u8; Machine::BYTES]
+    requires { ⌜ Sound (now room) ⌝ }
+    requires { ⌜ (count ≤ byteValues) × Below (now least) 0 count byteValues ⌝ }
+    ensures { λ r. ⌜ Column (now (room .entry)) (now (least .entry)) r count ⌝ }
 {
-    let least = bytes.least;
-    let count = bytes.count;
-    let mut left = [0u8; Machine::BYTES];
-    let mut right = [0u8; Machine::BYTES];
-    let mut i: usize = 0;
-    while i < count {
-        let x = least[i] as usize;
-        left[i] = a[Machine::CLASSES_AT + x];
-        right[i] = b[Machine::CLASSES_AT + x];
-        i += 1;
+    let mut column = [0u8; Machine::BYTES];
+    let mut j: usize = 0;
+    while j < count {
+        column[j] = room[Machine::CLASSES_AT + least[j] as usize];
+        j += 1;
     }
-    Columns {
-        left: left,
-        right: right,
-        count: count,
-    }
+    column
 }
 
 // The mark of the state q.
@@ -129,12 +147,12 @@ fn mark(a: &[u8], b: &[u8], q: usize) -> u8
     }
 }
 
-// Round 0: the parts by mark.
-fn begin(a: &[u8], b: &[u8], n: usize) -> [u16; STATES]
+// Round 0: the parts by mark, where all are 0.
+fn begin(a: &[u8], b: &[u8], n: usize, part: &mut [u16; STATES])
     requires { ⌜ Side (now a) (now b) n ⌝ }
-    ensures { λ r. ⌜ (length r ≡ stateLimit + stateLimit) × Named (Together (side (now (a .entry)) (now (b .entry)) n) 0) r n ⌝ }
+    requires { ⌜ now part ≡ replicate (stateLimit + stateLimit) 0 ⌝ }
+    ensures { λ _. ⌜ (length (now (part .exit)) ≡ stateLimit + stateLimit) × Named (Together (side (now (a .entry)) (now (b .entry)) n) 0) (now (part .exit)) n ⌝ }
 {
-    let mut part = [0u16; STATES];
     let m = mark(a, b, 0);
     let mut other: usize = 0;
     let mut q: usize = 0;
@@ -147,7 +165,6 @@ fn begin(a: &[u8], b: &[u8], n: usize) -> [u16; STATES]
         }
         q += 1;
     }
-    part
 }
 
 // The state after q on the bytes of the kind i.
@@ -274,52 +291,57 @@ fn round(
     opened
 }
 
-// The part of each state when nothing splits any more; for each part its parent and the round it was born in; and the number of rounds.
-pub struct Parts {
-    pub part: [u16; STATES],
-    pub parent: [u16; STATES],
-    pub born: [u16; STATES],
-    pub rounds: usize,
+// Copies the parts of the first n states.
+fn adopt(next: &[u16; STATES], part: &mut [u16; STATES], n: usize)
+    requires { ⌜ (n ≤ stateLimit + stateLimit) × (length (now part) ≡ stateLimit + stateLimit) ⌝ }
+    ensures { λ _. ⌜ Written n (λ q. getD (now (next .entry)) q 0) (now (part .entry)) (now (part .exit)) ⌝ }
+{
+    let mut q: usize = 0;
+    while q < n {
+        part[q] = next[q];
+        q += 1;
+    }
 }
 
-// Refines the first n states until nothing splits; `bytes` has the kinds of the bytes.
-pub fn refine(a: &[u8], b: &[u8], bytes: ByteKinds, n: usize) -> Parts
+// Refines the first n states until nothing splits, over the columns of the kinds; the number of rounds. In `part`, `parent` and `born`, which are 0 before, are then
+// the part of each state, and for each part its parent and the round it was born in.
+pub fn refine(
+    a: &[u8],
+    b: &[u8],
+    left: &[u8; Machine::BYTES],
+    right: &[u8; Machine::BYTES],
+    count: usize,
+    n: usize,
+    part: &mut [u16; STATES],
+    parent: &mut [u16; STATES],
+    born: &mut [u16; STATES],
+) -> usize
     requires { ⌜ Side (now a) (now b) n ⌝ }
-    requires { ⌜ KindsOf (now a) (now b) (bytes .kind) (bytes .least) (bytes .count) ⌝ }
-    ensures { λ r. ⌜ Refined (side (now (a .entry)) (now (b .entry)) n) (r .part) (r .parent) (r .born) (r .rounds) ⌝ }
-    ensures { λ r. ⌜ (length (r .part) ≡ stateLimit + stateLimit) × (length (r .parent) ≡ stateLimit + stateLimit) × (length (r .born) ≡ stateLimit + stateLimit) ⌝ }
+    requires { ⌜ ColumnsOf (now a) (now b) (now left) (now right) count ⌝ }
+    requires { ⌜ (now part ≡ replicate (stateLimit + stateLimit) 0) × (now parent ≡ replicate (stateLimit + stateLimit) 0) × (now born ≡ replicate (stateLimit + stateLimit) 0) ⌝ }
+    ensures { λ r. ⌜ Refined (side (now (a .entry)) (now (b .entry)) n) (now (part .exit)) (now (parent .exit)) (now (born .exit)) r ⌝ }
+    ensures { λ r. ⌜ (length (now (part .exit)) ≡ stateLimit + stateLimit) × (length (now (parent .exit)) ≡ stateLimit + stateLimit) × (length (now (born .exit)) ≡ stateLimit + stateLimit) ⌝ }
 {
-    let c = classes(a, b, bytes);
-    let left = c.left;
-    let right = c.right;
-    let count = c.count;
-    let mut part = begin(a, b, n);
+    begin(a, b, n, part);
     let mut next = [0u16; STATES];
-    let mut parent = [0u16; STATES];
-    let mut born = [0u16; STATES];
     let mut r: usize = 0;
     while round(
         a,
         b,
-        &left,
-        &right,
+        left,
+        right,
         count,
-        &part,
+        part,
         &mut next,
-        &mut parent,
-        &mut born,
+        parent,
+        born,
         n,
         (r + 1) as u16,
     ) {
-        part = next;
+        adopt(&next, part, n);
         r += 1;
     }
-    Parts {
-        part: part,
-        parent: parent,
-        born: born,
-        rounds: r,
-    }
+    r
 }
 
 // The part of q after r rounds.

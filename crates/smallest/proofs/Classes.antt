@@ -14,10 +14,9 @@ use Rattle.scope.specs.Limits.{byteValues, classesAt}
 use Rattle.scope.specs.Room.{classesOf, classOf, Below, Sound}
 use Rattle.scope.proofs.Tests.{split, level}
 use Rattle.scope.proofs.Hole.{pigeon}
-use Rattle.parts.specs.Kinds.{KindsOf}
+use Rattle.parts.specs.Kinds.{KindsOf, Column}
 use Rattle.parts.proofs.ByKind.{kind-before}
-use Rattle.smallest.specs.Numbering.{ColumnsOf}
-use Rattle.smallest.specs.Classes.{Alike, Found, Led, Merged, Mapped, Classed}
+use Rattle.smallest.specs.Classes.{Alike, Distinct, Found, Led, Merged, Mapped, Classed}
 use Rattle.smallest.proofs.Arrival.{First, arrival-came}
 use Rattle.smallest.proofs.ByKind.{kind-column}
 
@@ -38,22 +37,26 @@ merged-none a order into column n = record {
 pub merged-inside : {a order into column sort leader : List ℕ} {n k e to limit : ℕ} → Merged a order into column sort leader n k e → e ≤ to → Below column 0 to limit → Below leader 0 k limit
 merged-inside m h b c g l = let x = m .led c g in rw (← x .same) (b (x .kind) (omega (arith, x .inside)) (omega arith))
 
-module _ {a order into column sort leader : List ℕ} {n k e i : ℕ} (h : e < byteValues) (m : Merged a order into column sort leader n k e)
-    (f : Found a order into leader n k (getD column e 0) i) where
-  here : getD (set sort e i) e 0 ≡ i
-  here = getD-set-same sort e i 0 (omega (arith, m .sort-size))
+-- u: the column of the kind e
+module _ {a order into column sort leader : List ℕ} {n k e i : ℕ} (h : e < byteValues) (b : getD column e 0 < byteValues) (s : Distinct column (e + 1))
+    (m : Merged a order into column sort leader n k e) (f : Found a order into leader n k (getD column e 0) i) where
+  abbrev u : ℕ
+  u = getD column e 0
 
-  off : (j : ℕ) → j < e → getD (set sort e i) j 0 ≡ getD sort j 0
-  off j l = getD-set-other sort e j i 0 (λ z. omega arith)
+  here : getD (set sort u i) u 0 ≡ i
+  here = getD-set-same sort u i 0 (omega (arith, m .sort-size))
+
+  off : (j : ℕ) → j < e → getD (set sort u i) (getD column j 0) 0 ≡ getD sort (getD column j 0) 0
+  off j l = getD-set-other sort u (getD column j 0) i 0 (s j e (omega arith) l)
 
   -- the kind e is of the class i that is there
-  pub merged-old : i < k → Merged a order into column (set sort e i) leader n k (e + 1)
+  pub merged-old : i < k → Merged a order into column (set sort u i) leader n k (e + 1)
   merged-old l = record {
-    sort-size = length-set sort e i ∙ m .sort-size;
+    sort-size = length-set sort u i ∙ m .sort-size;
     leader-size = m .leader-size;
     few = omega (arith, m .few);
-    below = below-more (λ (j : ℕ). getD (set sort e i) j 0 < k) e (λ j g. rw (off j g) (m .below j g)) (rw here l);
-    alike = below-more (λ (j : ℕ). Alike a order into n (getD leader (getD (set sort e i) j 0) 0) (getD column j 0)) e (λ j g. rw (off j g) (m .alike j g)) (rw here (f .has l));
+    below = below-more (λ (j : ℕ). getD (set sort u i) (getD column j 0) 0 < k) e (λ j g. rw (off j g) (m .below j g)) (rw here l);
+    alike = below-more (λ (j : ℕ). Alike a order into n (getD leader (getD (set sort u i) (getD column j 0) 0) 0) (getD column j 0)) e (λ j g. rw (off j g) (m .alike j g)) (rw here (f .has l));
     led = λ c g. let x = m .led c g in record {
       kind = x .kind;
       inside = omega (arith, x .inside);
@@ -65,15 +68,15 @@ module _ {a order into column sort leader : List ℕ} {n k e i : ℕ} (h : e < b
   }
 
   -- the kind e makes a new class, and leads it
-  pub merged-new : i ≡ k → Merged a order into column (set sort e i) (set leader k (getD column e 0)) n (k + 1) (e + 1)
+  pub merged-new : i ≡ k → Merged a order into column (set sort u i) (set leader k u) n (k + 1) (e + 1)
   merged-new z = record {
-    sort-size = length-set sort e i ∙ m .sort-size;
+    sort-size = length-set sort u i ∙ m .sort-size;
     leader-size = length-set leader k u ∙ m .leader-size;
     few = omega (arith, m .few);
-    below = below-more (λ (j : ℕ). getD (set sort e i) j 0 < k + 1) e (λ j g. omega (arith, off j g, m .below j g)) (omega (arith, here));
-    alike = below-more (λ (j : ℕ). Alike a order into n (getD leader′ (getD (set sort e i) j 0) 0) (getD column j 0)) e
-        (λ j g. rw (off j g, kept (getD sort j 0) (m .below j g)) (m .alike j g)) (rw (here, z, at) (λ q g. refl));
-    led = below-more (λ (c : ℕ). Led column (set sort e i) leader′ (e + 1) c) k
+    below = below-more (λ (j : ℕ). getD (set sort u i) (getD column j 0) 0 < k + 1) e (λ j g. omega (arith, off j g, m .below j g)) (omega (arith, here));
+    alike = below-more (λ (j : ℕ). Alike a order into n (getD leader′ (getD (set sort u i) (getD column j 0) 0) 0) (getD column j 0)) e
+        (λ j g. rw (off j g, kept (getD sort (getD column j 0) 0) (m .below j g)) (m .alike j g)) (rw (here, z, at) (λ q g. refl));
+    led = below-more (λ (c : ℕ). Led column (set sort u i) leader′ (e + 1) c) k
         (λ c g. let x = m .led c g in record {
           kind = x .kind;
           inside = omega (arith, x .inside);
@@ -88,9 +91,6 @@ module _ {a order into column sort leader : List ℕ} {n k e i : ℕ} (h : e < b
     ];
   }
     where
-      u : ℕ
-      u = getD column e 0
-
       leader′ : List ℕ
       leader′ = set leader k u
 
@@ -103,7 +103,11 @@ module _ {a order into column sort leader : List ℕ} {n k e i : ℕ} (h : e < b
 -- ---- all kinds, and so all bytes
 
 module _ {a kind least column order into sort leader class : List ℕ} {kinds n k : ℕ} (s : Sound a) (t : KindsOf a a kind least kinds)
-    (z : ColumnsOf a least column kinds) (m : Merged a order into column sort leader n k kinds) (e : Mapped kind sort class) where
+    (z : Column a least column kinds) (m : Merged a order into column sort leader n k kinds) (e : Mapped a sort class) where
+  -- a byte has the class of its kind
+  of-kind : (x : ℕ) → x < byteValues → getD class x 0 ≡ getD sort (getD column (getD kind x 0) 0) 0
+  of-kind x h = e .inside x h ∙ sym (rw (kind-column t z x h) refl)
+
   -- two leaders that are alike are one
   one : (c d : ℕ) → c < k → d < k → Alike a order into n (getD leader c 0) (getD leader d 0) → c ≡ d
   one c d g h l = level c d (λ x. m .apart c d h x l) (λ x. m .apart d c g x (λ q y. sym (l q y)))
@@ -114,16 +118,16 @@ module _ {a kind least column order into sort leader class : List ℕ} {kinds n 
       let l = m .led c h in
       let b = t .byte (l .kind) (l .inside) in
       let o = t .own (l .kind) (l .inside) in
-      (getD least (l .kind) 0, b, e .inside (getD least (l .kind) 0) b ∙ rw o (l .class), sym (kind-column t z (getD least (l .kind) 0) b) ∙ rw o (l .same))
+      (getD least (l .kind) 0, b, of-kind (getD least (l .kind) 0) b ∙ rw o (l .class), sym (kind-column t z (getD least (l .kind) 0) b) ∙ rw o (l .same))
 
   inside : (c : ℕ) → c < k → getD leader c 0 < classesOf a
   inside c h = let (x, b, i, f) = holds c h in omega (arith, f, s .classes (classesAt + x) (omega (arith, b)) (omega arith))
 
   below : (x : ℕ) → x < byteValues → getD class x 0 < k
-  below x h = rw (e .inside x h) (m .below (getD kind x 0) (t .below x h))
+  below x h = rw (of-kind x h) (m .below (getD kind x 0) (t .below x h))
 
   alike : (x : ℕ) → x < byteValues → Alike a order into n (getD leader (getD class x 0) 0) (classOf a x)
-  alike x h = rw (e .inside x h, ← kind-column t z x h) (m .alike (getD kind x 0) (t .below x h))
+  alike x h = rw (of-kind x h, ← kind-column t z x h) (m .alike (getD kind x 0) (t .below x h))
 
   -- the bytes below it are of kinds before it, and so of classes before it
   first : (c : ℕ) → c < k → First (λ x. getD class x 0) c
@@ -131,7 +135,7 @@ module _ {a kind least column order into sort leader class : List ℕ} {kinds n 
   first c h =
       let l = m .led c h in
       let b = t .byte (l .kind) (l .inside) in
-      (getD least (l .kind) 0, holds c h .2, λ y g. rw (e .inside y (omega arith)) (l .earlier (getD kind y 0) (kind-before t y (l .kind) (l .inside) g)))
+      (getD least (l .kind) 0, holds c h .2, λ y g. rw (of-kind y (omega arith)) (l .earlier (getD kind y 0) (kind-before t y (l .kind) (l .inside) g)))
 
   pub classed : Classed a order into class leader n k
   classed = record {

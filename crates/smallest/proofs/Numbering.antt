@@ -13,16 +13,16 @@ use Rattle.scope.specs.Room.{statesOf, nextOf, machine, Sound}
 use Rattle.scope.specs.Canonical.{entry}
 use Rattle.scope.proofs.Tests.{split}
 use Rattle.scope.proofs.Run.{run-append, bytes-append, sound-closed}
-use Rattle.parts.specs.Kinds.{KindsOf}
+use Rattle.parts.specs.Kinds.{KindsOf, Column}
 use Rattle.parts.specs.Refined.{PartsOf}
 use Rattle.parts.proofs.ByKind.{kind-before}
-use Rattle.smallest.specs.Numbering.{ColumnsOf, leads, Forth, Came, Swept, Numbers, smaller, Smallest}
+use Rattle.smallest.specs.Numbering.{leads, Forth, Came, Swept, Numbers, smaller, Smallest}
 use Rattle.smallest.proofs.Arrival.{First, arrival-came}
 use Rattle.smallest.proofs.ByKind.{kind-column}
 use Rattle.smallest.proofs.Swept.{swept-few}
 
 module _ {a part kind least column order number into : List ℕ} {kinds n : ℕ} (s : Sound a) (f : PartsOf (machine a) part) (k : KindsOf a a kind least kinds)
-    (c : ColumnsOf a least column kinds) (w : Swept a part column order number kinds n n 0) (e : Numbers part number into (statesOf a)) where
+    (c : Column a least column kinds) (w : Swept a part column order number kinds n n 0) (e : Numbers part number into (statesOf a)) where
   abbrev N : Machine
   N = smaller a order into n
 

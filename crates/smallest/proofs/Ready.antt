@@ -7,18 +7,18 @@ use native.Mathlib.Omega.{arith}
 use lib.ListN.{getD}
 use Rattle.scope.specs.Limits.{classesAt}
 use Rattle.scope.specs.Room.{statesOf, Sound}
-use Rattle.parts.specs.Kinds.{KindsOf}
+use Rattle.parts.specs.Kinds.{KindsOf, Column}
 use Rattle.parts.specs.Side.{side}
 use Rattle.parts.specs.Refined.{Refined}
 use Rattle.parts.proofs.Refined.{left-parts}
-use Rattle.smallest.specs.Numbering.{ColumnsOf, Ready, Numbered, Rows}
+use Rattle.smallest.specs.Numbering.{Ready, Numbered, Rows}
 use Rattle.smallest.specs.Classes.{Merged, Mapped}
 use Rattle.smallest.specs.Image.{Planned}
 use Rattle.smallest.proofs.Swept.{swept-few}
 use Rattle.smallest.proofs.Numbering.{smallest}
 use Rattle.smallest.proofs.Classes.{classed}
 
-module _ {a kind least column part parent born : List ℕ} {kinds rounds : ℕ} (s : Sound a) (k : KindsOf a a kind least kinds) (c : ColumnsOf a least column kinds)
+module _ {a kind least column part parent born : List ℕ} {kinds rounds : ℕ} (s : Sound a) (k : KindsOf a a kind least kinds) (c : Column a least column kinds)
     (r : Refined (side a a (statesOf a)) part parent born rounds) where
   -- the parts and the columns are ready to be numbered
   pub ready : Ready a part column kinds
@@ -35,6 +35,6 @@ module _ {a kind least column part parent born : List ℕ} {kinds rounds : ℕ} 
     rows = record { sound = s; few = omega (arith, swept-few s (ready .parts) (z .swept), s .few-states); inside = λ q h g. z .swept .back q h .inside }
 
     -- numbered states and merged classes are the plan
-    pub planned : {sort leader class : List ℕ} {i : ℕ} → Merged a order into column sort leader n i kinds → Mapped kind sort class
+    pub planned : {sort leader class : List ℕ} {i : ℕ} → Merged a order into column sort leader n i kinds → Mapped a sort class
         → Planned a (record { states = n; order = order; into = into; classes = i; class = class; leader = leader })
     planned m e = record { sound = s; smallest = smallest s (ready .parts) k c (z .swept) (z .numbers); classed = classed s k c m e }

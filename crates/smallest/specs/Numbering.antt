@@ -1,6 +1,5 @@
 -- The states of the smallest machine of a room: the parts of its states that no string tells apart, numbered on first arrival. A part is named by its least state, and
 -- the bytes are read by kinds: all bytes of a kind have one class in the room, its column.
---   ColumnsOf a least column kinds: column has the class of the least byte of each kind
 --   Ready a part column kinds: what is numbered: the parts of a sound room, over the columns
 --   leads a part order q u: the part to which the state with the number q is led by the column u
 --   Before r j q i: the row r and the kind j are read before the row q and the kind i
@@ -23,9 +22,6 @@ use Rattle.scope.specs.Room.{statesOf, classesOf, classOf, markOf, cellOf, next
 use Rattle.scope.specs.Canonical.{Arrival, entry}
 use Rattle.scope.specs.Buffers.{Written}
 use Rattle.parts.specs.Refined.{PartsOf}
-
-abbrev pub ColumnsOf : List ℕ → List ℕ → List ℕ → ℕ → Type 0
-ColumnsOf a least column kinds = Written kinds (λ j. classOf a (getD least j 0)) (replicate byteValues 0) column
 
 pub record Ready (a part column : List ℕ) (kinds : ℕ) : Type 0 where
   pub sound : Sound a

@@ -34,13 +34,24 @@ fn make_plan(from: &[u8]) -> Plan
     requires { ⌜ Sound (now from) ⌝ }
     ensures { λ r. ⌜ Planned (now (from .entry)) r ⌝ }
 {
-    let bytes = parts::kinds(from, from);
-    let kind = bytes.kind;
+    let bytes = parts::kinds(from, from, from[1] as usize);
     let least = bytes.least;
     let kinds = bytes.count;
-    let refined = parts::refine(from, from, bytes, from[0] as usize);
-    let part = refined.part;
-    let column = number::columns(from, &least, kinds);
+    let column = parts::columns(from, &least, kinds);
+    let mut part = [0u16; parts::STATES];
+    let mut parent = [0u16; parts::STATES];
+    let mut born = [0u16; parts::STATES];
+    parts::refine(
+        from,
+        from,
+        &column,
+        &column,
+        kinds,
+        from[0] as usize,
+        &mut part,
+        &mut parent,
+        &mut born,
+    );
     let states = number::arrivals(from, &part, &column, kinds);
     let order = states.order;
     let into = states.into;
@@ -48,7 +59,7 @@ fn make_plan(from: &[u8]) -> Plan
     let classes = merge::merge(from, &order, &into, n, &column, kinds);
     let sort = classes.sort;
     let leader = classes.leader;
-    let class = merge::of_bytes(&kind, &sort);
+    let class = merge::of_bytes(from, &sort);
     Plan {
         states: n,
         order: order,

@@ -3,10 +3,10 @@
 use scope::Machine;
 ghost use Prim.Native.Nat.{_≤_, _<_};
 ghost use Rattle.scope.specs.Limits.{byteValues};
-ghost use Rattle.scope.specs.Room.{classesOf, Below};
+ghost use Rattle.scope.specs.Room.{classesOf, Below, Sound};
 ghost use Rattle.slices.specs.Parts.{Decides};
 ghost use Rattle.smallest.specs.Numbering.{Rows};
-ghost use Rattle.smallest.specs.Classes.{Alike, Found, Merged, Mapped};
+ghost use Rattle.smallest.specs.Classes.{Alike, Distinct, Found, Merged, Mapped};
 
 // Whether the columns u and v lead each state to the same state.
 fn are_alike(
@@ -59,7 +59,7 @@ fn find(
     k
 }
 
-// The class of each kind, the column of each class, and how many classes there are.
+// The class of each column, the column of each class, and how many classes there are.
 pub struct Classes {
     pub sort: [u8; Machine::BYTES],
     pub leader: [u8; Machine::BYTES],
@@ -76,7 +76,7 @@ pub fn merge(
     kinds: usize,
 ) -> Classes
     requires { ⌜ Rows (now from) (now order) n ⌝ }
-    requires { ⌜ (kinds ≤ byteValues) × Below (now column) 0 kinds (classesOf (now from)) ⌝ }
+    requires { ⌜ (kinds ≤ byteValues) × Below (now column) 0 kinds (classesOf (now from)) × Distinct (now column) kinds ⌝ }
     ensures { λ r. ⌜ Merged (now (from .entry)) (now (order .entry)) (now (into .entry)) (now (column .entry)) (r .sort) (r .leader) n (r .count) kinds ⌝ }
 {
     let mut sort = [0u8; Machine::BYTES];
@@ -86,7 +86,7 @@ pub fn merge(
     while j < kinds {
         let u = column[j];
         let c = find(from, order, into, n, &leader, count, u);
-        sort[j] = c as u8;
+        sort[u as usize] = c as u8;
         if c == count {
             leader[count] = u;
             count += 1;
@@ -100,15 +100,15 @@ pub fn merge(
     }
 }
 
-// The class of each byte: that of its kind.
-pub fn of_bytes(kind: &[u8; Machine::BYTES], sort: &[u8; Machine::BYTES]) -> [u8; Machine::BYTES]
-    requires { ⌜ Below (now kind) 0 byteValues byteValues ⌝ }
-    ensures { λ r. ⌜ Mapped (now (kind .entry)) (now (sort .entry)) r ⌝ }
+// The class of each byte: that of its column.
+pub fn of_bytes(from: &[u8], sort: &[u8; Machine::BYTES]) -> [u8; Machine::BYTES]
+    requires { ⌜ Sound (now from) ⌝ }
+    ensures { λ r. ⌜ Mapped (now (from .entry)) (now (sort .entry)) r ⌝ }
 {
     let mut class = [0u8; Machine::BYTES];
     let mut x: usize = 0;
     while x < Machine::BYTES {
-        class[x] = sort[kind[x] as usize];
+        class[x] = sort[from[Machine::CLASSES_AT + x] as usize];
         x += 1;
     }
     class

@@ -3,23 +3,8 @@
 use scope::Machine;
 ghost use Prim.Native.Nat.{_+_, _≤_, _<_};
 ghost use Rattle.scope.specs.Limits.{byteValues, stateLimit};
-ghost use Rattle.scope.specs.Room.{Below, Sound};
-ghost use Rattle.smallest.specs.Numbering.{ColumnsOf, Ready, Swept, Numbers, Numbered};
-
-// The class of the least byte of each kind.
-pub fn columns(from: &[u8], least: &[u8; Machine::BYTES], kinds: usize) -> [u8; Machine::BYTES]
-    requires { ⌜ Sound (now from) ⌝ }
-    requires { ⌜ (kinds ≤ byteValues) × Below (now least) 0 kinds byteValues ⌝ }
-    ensures { λ r. ⌜ ColumnsOf (now (from .entry)) (now (least .entry)) r kinds ⌝ }
-{
-    let mut column = [0u8; Machine::BYTES];
-    let mut j: usize = 0;
-    while j < kinds {
-        column[j] = from[Machine::CLASSES_AT + least[j] as usize];
-        j += 1;
-    }
-    column
-}
+ghost use Rattle.scope.specs.Room.{Below};
+ghost use Rattle.smallest.specs.Numbering.{Ready, Swept, Numbers, Numbered};
 
 // Numbers the parts to which the state q leads that have no number yet; how many have one then.
 fn sweep(

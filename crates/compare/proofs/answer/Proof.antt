@@ -1,82 +1,66 @@
 -- The starts lie in one part, or there is a first round after which they are not together, and so many bytes are spelled.
+use mathlib.Core.Path.{refl}
 use native.Mathlib.Omega.{arith}
 use borrow.Author.Needs.{needs}
+use Rattle.parts.proofs.ByKind.{most-bytes, columns-of, least-bytes}
 use Rattle.parts.proofs.Rooms.{side-both}
 use Rattle.compare.proofs.Results.{answer-same, answer-apart, answer-spells, answer-fits, answer-separated}
 use Rattle.compare.proofs.answer.Statement.{statement}
 use Rattle.compare.proofs.answer.Tie as tie
 
-shared-slice-read-s : tie.Need-shared-slice-read-s
-shared-slice-read-s c = search needs
-
-cast-s : tie.Need-cast-s
-cast-s c = search needs
-
 kinds-requires : tie.Need-kinds-requires
-kinds-requires c κs = c .before .before .before .before .pre .0
+kinds-requires c κs = (c .before .before .before .before .pre .0, most-bytes _ _)
 
-shared-slice-read-refine : tie.Need-shared-slice-read-refine
-shared-slice-read-refine c = search needs
+columns-requires : tie.Need-columns-requires
+columns-requires c κs = (c .before .before .before .before .before .before .before .pre .0 .0, least-bytes (c .before .before .kinds .ensures))
 
-cast-refine : tie.Need-cast-refine
-cast-refine c = search needs
-
-add-refine : tie.Need-add-refine
-add-refine c = search needs
+columns-requires-2 : tie.Need-columns-requires-2
+columns-requires-2 c κs = (c .before .before .before .before .before .before .before .before .before .pre .0 .1, least-bytes (c .before .before .before .before .kinds .ensures))
 
 refine-requires : tie.Need-refine-requires
 refine-requires c κs =
-    let s = c .before .before .before .before .before .before .pre .0 in
-    (side-both _ _ (s .0) (s .1), c .before .kinds .ensures)
-
-array-read-if1 : tie.Need-array-read-if1
-array-read-if1 c = search needs
+    let s = c .before .before .before .before .before .before .before .before .before .before .before .before .before .before .before .before .pre .0 in
+    (side-both _ _ (s .0) (s .1), (columns-of (c .before .before .before .before .before .before .before .before .before .before .before .kinds .ensures) (c .before .before .before .before .before .before .before .before .columns .ensures) (c .before .before .before .before .before .before .columns2 .ensures), (refl, refl, refl)))
 
 mul-if1 : tie.Need-mul-if1
-mul-if1 c = search needs
+mul-if1 c = omega (arith, c .before .before .before .before .before .before .before .before .before .before .before .before .before .before .before .before .before .pre .0 .0 .few-states)
 
 array-read-if1-2 : tie.Need-array-read-if1-2
-array-read-if1-2 c = search needs
+array-read-if1-2 c = omega (arith, c .before .before .before .before .before .before .before .before .before .before .before .before .before .before .before .before .before .pre .0 .0 .few-states)
 
 returns : tie.Need-returns
-returns c =
-    let s = c .before .before .before .before .before .before .before .before .before .pre .0 in
-    answer-same (s .0) (s .1) (c .before .before .refine .ensures .0) (c .if1 .taken)
+returns c = let s = c .before .before .before .before .before .before .before .before .before .before .before .before .before .before .before .before .before .before .pre .0 in answer-same (s .0) (s .1) (c .before .refine .ensures .0) (c .if1 .taken)
 
 distance-requires : tie.Need-distance-requires
-distance-requires c κs =
-    let r = c .before .before .before .before .before .before .before in
-    let s = r .before .before .before .before .before .before .before .pre .0 in
-    answer-apart (s .0) (s .1) (r .refine .ensures .0) (c .before .before .before .before .before .if1 .left)
+distance-requires c κs = let s = c .before .before .before .before .before .before .before .before .before .before .before .before .before .before .before .before .before .before .before .before .before .pre .0 in answer-apart (s .0) (s .1) (c .before .before .before .before .refine .ensures .0) (c .before .before .before .if1 .left)
 
 spell-requires : tie.Need-spell-requires
 spell-requires c κs =
-    let r = c .before .before .before .before .before .before .before .before .before .before .before .before in
-    let s = r .before .before .before .before .before .before .before .pre in
-    let e = c .before .before .before .before .distance .ensures in
-    (answer-spells (s .0 .0) (s .0 .1) (r .refine .ensures .0) e, (r .before .before .kinds .ensures, omega (arith, answer-fits (s .0 .0) (s .0 .1) (r .refine .ensures .0) e, s .1)))
+    let s = c .before .before .before .before .before .before .before .before .before .before .before .before .before .before .before .before .before .before .before .before .before .before .before .before .before .before .before .pre in
+    let r = c .before .before .before .before .before .before .before .before .before .before .refine .ensures .0 in
+    let e = c .before .before .before .before .before .distance .ensures in
+    (answer-spells (s .0 .0) (s .0 .1) r e, ((_, c .before .before .before .before .before .before .before .before .before .before .before .before .before .before .before .before .before .before .before .before .before .before .kinds .ensures), omega (arith, answer-fits (s .0 .0) (s .0 .1) r e, s .1)))
 
 same-length : tie.Need-same-length
 same-length c = c .before .before .spell .ensures .written .size
 
 returns-2 : tie.Need-returns-2
-returns-2 c =
-    let r = c .before .before .before .before .before .before .before .before .before .before .before .before .before .before .before in
-    let s = r .before .before .before .before .before .before .before .pre .0 in
-    answer-separated (s .0) (s .1) (r .refine .ensures .0) (c .before .before .spell .ensures)
+returns-2 c = let s = c .before .before .before .before .before .before .before .before .before .before .before .before .before .before .before .before .before .before .before .before .before .before .before .before .before .before .before .before .before .before .pre .0 in answer-separated (s .0) (s .1) (c .before .before .before .before .before .before .before .before .before .before .before .before .before .refine .ensures .0) (c .before .before .spell .ensures)
 
 pub answer-spec : {M : Type 1} → statement M
 answer-spec =
     tie.close
     (tie.spec
-    shared-slice-read-s
-    cast-s
+    (λ c. search needs)
+    (λ c. search needs)
     kinds-requires
-    shared-slice-read-refine
-    cast-refine
-    add-refine
+    columns-requires
+    columns-requires-2
+    (λ c. search needs)
+    (λ c. search needs)
+    (λ c. search needs)
     refine-requires
-    array-read-if1
+    (λ c. search needs)
     mul-if1
     array-read-if1-2
     returns

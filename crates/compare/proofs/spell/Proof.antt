@@ -8,16 +8,16 @@ use Rattle.compare.proofs.spell.Statement.{statement}
 use Rattle.compare.proofs.spell.Tie as tie
 
 abbrev Inv-loop : tie.InvT-loop
-Inv-loop left right part parent born long word least p q at i₀ y₀ z₀ i y z = Tried left right least (long - (at + 1)) p q i
+Inv-loop left right part parent born least long word p q at i₀ y₀ z₀ i y z = Tried left right least (long - (at + 1)) p q i
 
 abbrev μ-loop : tie.MeasureT-loop
-μ-loop left right part parent born long word least p q at i₀ y₀ z₀ i y z = 256 - i
+μ-loop left right part parent born least long word p q at i₀ y₀ z₀ i y z = 256 - i
 
 abbrev Inv-walk : tie.InvT-walk
-Inv-walk left right part parent born long word₀ least p₀ q₀ at₀ word p q at = Writing left right word₀ word long p q at
+Inv-walk left right part parent born least long word₀ p₀ q₀ at₀ word p q at = Writing left right word₀ word long p q at
 
 abbrev μ-walk : tie.MeasureT-walk
-μ-walk left right part parent born long word₀ least p₀ q₀ at₀ word p q at = long - at
+μ-walk left right part parent born least long word₀ p₀ q₀ at₀ word p q at = long - at
 
 shared-slice-read-q : tie.Need-shared-slice-read-q Inv-loop μ-loop Inv-walk μ-walk
 shared-slice-read-q c = search needs
@@ -26,32 +26,28 @@ cast-q : tie.Need-cast-q Inv-loop μ-loop Inv-walk μ-walk
 cast-q c = search needs
 
 walk-holds : tie.Need-walk-holds Inv-loop μ-loop Inv-walk μ-walk
-walk-holds c = writing-none (c .before .before .before .before .before .pre .0) _
+walk-holds c = writing-none (c .before .before .before .before .pre .0) _
 
 loop-holds : tie.Need-loop-holds Inv-loop μ-loop Inv-walk μ-walk
 loop-holds c = below-none _
 
-array-read-x : tie.Need-array-read-x Inv-loop μ-loop Inv-walk μ-walk
-array-read-x c =
-    let w = c .before .before in
-    let s = w .before .before .before .before .before .before .pre in
-    omega (arith, untried (s .0) (s .1 .0) (w .walk .inv) (c .loop-test .left) (c .before .loop .i) (c .before .loop .inv), s .1 .0 .few)
+element-copy-out-x : tie.Need-element-copy-out-x Inv-loop μ-loop Inv-walk μ-walk
+element-copy-out-x c =
+    let s = c .before .before .before .before .before .before .before .pre in
+    let k = s .1 .0 .1 .are in
+    omega (arith, untried (s .0) k (c .before .before .walk .inv) (c .loop-test .left) (c .before .loop .i) (c .before .loop .inv), k .few)
 
 step-requires : tie.Need-step-requires Inv-loop μ-loop Inv-walk μ-walk
-step-requires c κs =
-    let s = c .before .before .before .before .before .before .before .before .pre .0 in
-    ((s .left, s .right), c .before .before .walk .inv .left)
+step-requires c κs = let s = c .before .before .before .before .before .before .before .before .pre .0 in ((s .left, s .right), c .before .before .before .walk .inv .left)
 
 step-requires-2 : tie.Need-step-requires-2 Inv-loop μ-loop Inv-walk μ-walk
-step-requires-2 c κs =
-    let s = c .before .before .before .before .before .before .before .before .before .pre .0 in
-    ((s .left, s .right), c .before .before .before .walk .inv .right)
+step-requires-2 c κs = let s = c .before .before .before .before .before .before .before .before .before .pre .0 in ((s .left, s .right), c .before .before .before .before .walk .inv .right)
 
 add-r : tie.Need-add-r Inv-loop μ-loop Inv-walk μ-walk
-add-r c = omega (arith, c .before .before .before .before .walk .inv .within)
+add-r c = omega (arith, c .before .before .before .before .before .walk .inv .within)
 
 sub-r : tie.Need-sub-r Inv-loop μ-loop Inv-walk μ-walk
-sub-r c = omega (arith, c .before .before .before .before .walk .inv .within, c .before .before .loop-test .left)
+sub-r c = omega (arith, c .before .before .before .before .before .walk .inv .within, c .before .before .before .loop-test .left)
 
 climb-requires : tie.Need-climb-requires Inv-loop μ-loop Inv-walk μ-walk
 climb-requires c κs = climb-ready (c .before .before .before .before .before .before .before .before .before .before .pre .0) _ _ (c .before .step .ensures .1) (omega arith)
@@ -60,48 +56,39 @@ climb-requires-2 : tie.Need-climb-requires-2 Inv-loop μ-loop Inv-walk μ-walk
 climb-requires-2 c κs = climb-ready (c .before .before .before .before .before .before .before .before .before .before .before .pre .0) _ _ (c .before .step2 .ensures .1) (omega arith)
 
 add-i : tie.Need-add-i Inv-loop μ-loop Inv-walk μ-walk
-add-i c = omega (arith, array-read-x (c .before .before .before .before .before))
+add-i c = omega (arith, element-copy-out-x (c .before .before .before .before .before .before))
 
 loop-less : tie.Need-loop-less Inv-loop μ-loop Inv-walk μ-walk
-loop-less c = omega (arith, array-read-x (c .before .before .before .before .before))
+loop-less c = omega (arith, element-copy-out-x (c .before .before .before .before .before .before))
 
 loop-again : tie.Need-loop-again Inv-loop μ-loop Inv-walk μ-walk
 loop-again c =
-    let t = c .before .before .before .before .before in
-    let w = t .before .before in
-    let s = w .before .before .before .before .before .before .pre in
-    tried-more (s .0) (s .1 .0) (w .walk .inv) (t .loop-test .left) (t .before .loop .i) (t .before .loop .inv)
+    let s = c .before .before .before .before .before .before .before .before .before .before .before .before .before .pre in
+    tried-more (s .0) (s .1 .0 .1 .are) (c .before .before .before .before .before .before .before .before .walk .inv) (c .before .before .before .before .before .before .loop-test .left) (c .before .before .before .before .before .before .before .loop .i) (c .before .before .before .before .before .before .before .loop .inv)
     (c .before .before .before .before .step .ensures) (c .before .before .before .step2 .ensures) (c .before .before .climb .ensures) (c .before .climb2 .ensures) (c .if1 .left)
 
 slice-write-word : tie.Need-slice-write-word Inv-loop μ-loop Inv-walk μ-walk
-slice-write-word c =
-    let t = c .before .before .before .before .before in
-    let w = t .before .before in
-    let s = w .before .before .before .before .before .before .pre in
-    omega (arith, w .walk .inv .within, w .walk .inv .kept .size, t .loop-test .left, s .1 .1)
+slice-write-word c = let w = c .before .before .before .before .before .before .before .before .walk .inv in omega (arith, w .within, w .kept .size, c .before .before .before .before .before .before .loop-test .left, c .before .before .before .before .before .before .before .before .before .before .before .before .before .pre .1 .1)
 
 add-at : tie.Need-add-at Inv-loop μ-loop Inv-walk μ-walk
-add-at c = omega (arith, c .before .before .before .before .before .before .before .walk .inv .within)
+add-at c = omega (arith, c .before .before .before .before .before .before .before .before .walk .inv .within)
 
 walk-less : tie.Need-walk-less Inv-loop μ-loop Inv-walk μ-walk
-walk-less c =
-    let t = c .before .before .before .before .before in
-    omega (arith, t .before .before .walk .inv .within, t .loop-test .left)
+walk-less c = omega (arith, c .before .before .before .before .before .before .before .before .walk .inv .within, c .before .before .before .before .before .before .loop-test .left)
 
 walk-again : tie.Need-walk-again Inv-loop μ-loop Inv-walk μ-walk
 walk-again c =
-    let t = c .before .before .before .before .before in
-    let w = t .before .before in
-    let s = w .before .before .before .before .before .before .pre in
-    writing-more (s .0) (s .1 .0) (w .walk .inv) (t .loop-test .left) (t .before .loop .i) (t .before .loop .inv)
+    let s = c .before .before .before .before .before .before .before .before .before .before .before .before .before .pre in
+    let w = c .before .before .before .before .before .before .before .before .walk .inv in
+    writing-more (s .0) (s .1 .0 .1 .are) w (c .before .before .before .before .before .before .loop-test .left) (c .before .before .before .before .before .before .before .loop .i) (c .before .before .before .before .before .before .before .loop .inv)
     (c .before .before .before .before .step .ensures) (c .before .before .before .step2 .ensures) (c .before .before .climb .ensures) (c .before .climb2 .ensures)
-    (omega (arith, w .walk .inv .within, t .loop-test .left, s .1 .1)) (c .if1 .taken)
+    (omega (arith, w .within, c .before .before .before .before .before .before .loop-test .left, s .1 .1)) (c .if1 .taken)
 
 same-length : tie.Need-same-length Inv-loop μ-loop Inv-walk μ-walk
 same-length c = c .before .before .walk .inv .kept .size
 
 returns : tie.Need-returns Inv-loop μ-loop Inv-walk μ-walk
-returns c = writing-done (c .before .before .before .before .before .before .before .before .pre .0) (c .loop-test .taken) (c .before .before .walk .inv)
+returns c = writing-done (c .before .before .before .before .before .before .before .pre .0) (c .loop-test .taken) (c .before .before .walk .inv)
 
 pub spell-spec : {M : Type 1} → statement M
 spell-spec =
@@ -115,7 +102,7 @@ spell-spec =
     cast-q
     walk-holds
     loop-holds
-    array-read-x
+    element-copy-out-x
     step-requires
     step-requires-2
     add-r

@@ -18,21 +18,21 @@ mark-requires : tie.Need-mark-requires Inv-loop μ-loop
 mark-requires c κs = search needs
 
 loop-holds : tie.Need-loop-holds Inv-loop μ-loop
-loop-holds c = (search needs, begun-none _ _)
+loop-holds c = (search needs, rw (c .before .before .before .pre .1) (begun-none _ _))
 
 mark-requires-2 : tie.Need-mark-requires-2 Inv-loop μ-loop
 mark-requires-2 c κs = search needs
 
 cast-part : tie.Need-cast-part Inv-loop μ-loop
-cast-part c = let d = c .before .before .before .before .before .before .before .before .before .pre in
+cast-part c = let d = c .before .before .before .before .before .before .before .before .before .pre .0 in
     let h : c .before .before .before .before .before .loop .q < 256 = omega (arith, c .before .before .before .before .loop-test .taken, d .few, d .left .few-states, d .right .few-states) in
     ⊎-elim (λ w. omega (arith, w .1)) (λ w. omega (arith, w .1, c .before .before .before .before .before .loop .inv .1 .low)) (c .before .if2 .came)
 
 mul-part : tie.Need-mul-part Inv-loop μ-loop
 mul-part c = search needs
 
-array-write-part : tie.Need-array-write-part Inv-loop μ-loop
-array-write-part c = search needs
+element-write-part : tie.Need-element-write-part Inv-loop μ-loop
+element-write-part c = search needs
 
 add-q : tie.Need-add-q Inv-loop μ-loop
 add-q c = search needs
@@ -41,7 +41,7 @@ loop-less : tie.Need-loop-less Inv-loop μ-loop
 loop-less c = search needs
 
 loop-again : tie.Need-loop-again Inv-loop μ-loop
-loop-again c = let d = c .before .before .before .before .before .before .before .pre in
+loop-again c = let d = c .before .before .before .before .before .before .before .pre .0 in
     let l = c .before .before .before .loop in
     let m = c .before .before .before .before .mark .ensures in
     let k = c .before .mark2 .ensures in
@@ -58,7 +58,7 @@ loop-again c = let d = c .before .before .before .before .before .before .before
 
 returns : tie.Need-returns Inv-loop μ-loop
 returns c = let e : c .before .loop .q ≡ c .before .before .before .before .before .args .n = omega arith in
-    (c .before .loop .inv .1 .long, begun-all _ _ _ _ _ (c .before .before .before .before .before .pre) (rw e at (c .before .loop .inv .1)))
+    (c .before .loop .inv .1 .long, begun-all _ _ _ _ _ (c .before .before .before .before .before .pre .0) (rw e at (c .before .loop .inv .1)))
 
 pub begin-spec : {M : Type 1} → statement M
-begin-spec = tie.close (tie.spec Inv-loop μ-loop mark-requires loop-holds mark-requires-2 cast-part mul-part array-write-part add-q loop-less loop-again returns)
+begin-spec = tie.close (tie.spec Inv-loop μ-loop mark-requires loop-holds mark-requires-2 cast-part mul-part element-write-part add-q loop-less loop-again returns)

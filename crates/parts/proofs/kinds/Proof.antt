@@ -1,81 +1,90 @@
--- The bytes below x have their kinds, and the table has the kind of each pair of classes that they have.
-use mathlib.Core.Path.{_≡_}
+-- The bytes below x have their kinds, and `last` has the classes of the byte before x.
 use mathlib.Core.Logic.{⊎-elim}
-use Prim.Native.Nat.{_≤_, _-_}
+use Prim.Native.Nat.{_+_, _≤_, _<_, _-_}
 use native.Mathlib.Omega.{arith}
 use borrow.Author.Needs.{needs}
-use lib.ListN.{getD}
-use Rattle.parts.proofs.ByKind.{Seen, seen-first, seen-old, seen-new}
+use borrow.Author.Tests.{ltb-false}
+use Rattle.parts.proofs.ByKind.{Passed, passed-first, passed-same, passed-level, passed-old, passed-new, passed-full, passed-all}
 use Rattle.parts.proofs.kinds.Statement.{statement}
 use Rattle.parts.proofs.kinds.Tie as tie
 
 abbrev Inv-loop : tie.InvT-loop
-Inv-loop a b kind₀ least₀ table₀ count₀ x₀ kind least table count x = (x ≤ 256) × Seen a b kind least table count x
+Inv-loop a b most least₀ count₀ last₀ x₀ least count last x = (0 < x) × (x ≤ 256) × Passed a b least count last x
 
 abbrev μ-loop : tie.MeasureT-loop
-μ-loop a b kind₀ least₀ table₀ count₀ x₀ kind least table count x = 256 - x
+μ-loop a b most least₀ count₀ last₀ x₀ least count last x = 256 - x
 
 loop-holds : tie.Need-loop-holds Inv-loop μ-loop
-loop-holds c = (search needs, seen-first _ _)
+loop-holds c = (search needs, search needs, passed-first _ _ _ (c .pair .ensures .0))
 
-pair-requires : tie.Need-pair-requires Inv-loop μ-loop
-pair-requires c κs = search needs
+is-level-requires : tie.Need-is-level-requires Inv-loop μ-loop
+is-level-requires c κs = (c .before .before .before .before .before .before .before .pre .0 .0, c .before .before .before .loop .inv .0, omega (arith, c .if2 .taken, c .before .before .loop-test .taken))
 
-array-read-i : tie.Need-array-read-i Inv-loop μ-loop
-array-read-i c = search needs
-
-cast-y : tie.Need-cast-y Inv-loop μ-loop
-cast-y c = let l = c .before .before .loop in omega (arith, l .inv .1 .small (c .pair .result), l .inv .1 .kinds .few)
-
-array-read-y : tie.Need-array-read-y Inv-loop μ-loop
-array-read-y c = let l = c .before .before .loop in omega (arith, l .inv .1 .small (c .pair .result), l .inv .1 .kinds .few)
-
-cast-y-2 : tie.Need-cast-y-2 Inv-loop μ-loop
-cast-y-2 c = let l = c .before .before .loop in omega (arith, l .inv .1 .kinds .byte (getD (l .table) (c .pair .result) 0) (l .inv .1 .small (c .pair .result)))
-
-pair-requires-2 : tie.Need-pair-requires-2 Inv-loop μ-loop
-pair-requires-2 c κs = let l = c .before .before .loop in
-    (c .before .before .before .before .before .pre, omega (arith, l .inv .1 .kinds .byte (getD (l .table) (c .pair .result) 0) (l .inv .1 .small (c .pair .result)), c .before .loop-test .taken))
-
-cast-i : tie.Need-cast-i Inv-loop μ-loop
-cast-i c = omega (arith, c .before .before .before .before .loop .inv .1 .kinds .few)
-
-array-write-table : tie.Need-array-write-table Inv-loop μ-loop
-array-write-table c = search needs
-
-cast-least : tie.Need-cast-least Inv-loop μ-loop
-cast-least c = search needs
-
-array-write-least : tie.Need-array-write-least Inv-loop μ-loop
-array-write-least c = omega (arith, c .before .before .before .before .loop .inv .1 .kinds .few)
-
-add-count : tie.Need-add-count Inv-loop μ-loop
-add-count c = omega (arith, c .before .before .before .before .loop .inv .1 .kinds .few)
-
-array-write-kind : tie.Need-array-write-kind Inv-loop μ-loop
-array-write-kind c = search needs
-
-add-x : tie.Need-add-x Inv-loop μ-loop
-add-x c = search needs
+is-level-requires-2 : tie.Need-is-level-requires-2 Inv-loop μ-loop
+is-level-requires-2 c κs = (c .before .before .before .before .before .before .before .before .before .pre .0 .1, c .before .before .before .before .before .loop .inv .0, omega (arith, c .before .before .if2 .taken, c .before .before .before .before .loop-test .taken))
 
 loop-less : tie.Need-loop-less Inv-loop μ-loop
-loop-less c = search needs
+loop-less c = omega (arith, c .before .before .before .before .before .before .loop-test .taken)
 
 loop-again : tie.Need-loop-again Inv-loop μ-loop
-loop-again c = let d = c .before .before .before .before .before .before .before .pre in
-    let l = c .before .before .before .before .loop in
-    let p = c .before .before .pair in
-    let r = c .before .pair2 in (
+loop-again c =
+    let h : c .before .before .before .before .before .before .before .loop .x + 16 ≤ 256 = omega (arith, c .before .before .before .before .if2 .taken, c .before .before .before .before .before .before .loop-test .taken) in
+    (search needs, h, passed-level _ _ _ _ (c .before .before .before .before .before .before .before .before .before .before .before .pre .0 .1) h (c .before .before .before .before .before .before .before .loop .inv .2) (c .before .before .before .is-level .ensures .yes (c .before .before .if3 .taken)) (c .before .is-level2 .ensures .yes (c .if4 .taken)))
+
+find-requires : tie.Need-find-requires Inv-loop μ-loop
+find-requires c κs =
+    let k = c .before .before .before .before .before .before .loop .inv .2 .kinds in
+    let l = c .before .before .before .before .before .loop-test .taken in
+    (c .before .before .before .before .before .before .before .before .before .before .pre .0, (omega (arith, k .few, l), λ i h z. omega (arith, k .byte i h, l)))
+
+array-write-least : tie.Need-array-write-least Inv-loop μ-loop
+array-write-least c = let k = c .before .before .before .before .before .before .before .before .loop .inv .2 .kinds in omega (arith, k .few, k .least-long, c .before .before .before .before .before .before .before .loop-test .taken)
+
+add-count : tie.Need-add-count Inv-loop μ-loop
+add-count c = omega (arith, c .before .before .before .before .before .before .before .before .loop .inv .2 .kinds .few)
+
+loop-again-2 : tie.Need-loop-again-2 Inv-loop μ-loop
+loop-again-2 c =
+    let t = c .before .before .before .before .before .before .before .before .before .pre .0 .1 in
+    let l = c .before .before .before .before .loop-test .taken in
+    let g = c .before .before .before .before .before .loop .inv .2 in
+    let e = c .before .pair2 .ensures .0 in (
+      search needs,
       search needs,
       ⊎-elim
-          (λ w. rw (w .1, w .2, w .3, w .4) (seen-new _ _ _ _ _ _ _ (p .result) (r .result) (d .0) (d .1) (c .before .before .before .loop-test .taken) (l .inv .1) (p .ensures .0) (r .ensures .0) (w .0 .taken)))
-          (λ w. rw (w .1, w .2, w .3, w .4) (seen-old _ _ _ _ _ _ _ (p .result) (r .result) (d .0) (d .1) (c .before .before .before .loop-test .taken) (l .inv .1) (p .ensures .0) (r .ensures .0) (w .0 .left)))
-          (c .if1 .came),
+          (λ w. rw (w .4, w .5, w .6) (passed-new _ _ _ _ _ _ _ t l g e (rw (w .3 .taken) at (w .2 .ensures))))
+          (⊎-elim
+          (λ w. rw (w .4, w .5, w .6) (passed-old _ _ _ _ _ _ _ t l g e (w .2 .result) (w .2 .ensures) (w .3 .left)))
+          (λ w. rw (w .1, w .2, w .3) (passed-same _ _ _ _ _ _ _ t l g e (w .0 .left))))
+          (c .if5 .came),
     )
 
 returns : tie.Need-returns Inv-loop μ-loop
-returns c = let e : c .before .loop .x ≡ 256 = omega arith in
-    rw e at (c .before .loop .inv .1 .kinds)
+returns c = passed-full _ _ _ (c .before .before .before .before .before .before .pre .0 .1) (c .before .before .before .before .before .before .pre .1) (c .before .before .loop .inv .1) (c .before .before .loop .inv .2) (ltb-false _ _ (c .if1 .left))
+
+returns-2 : tie.Need-returns-2 Inv-loop μ-loop
+returns-2 c = passed-all (omega arith) (c .before .loop .inv .2)
 
 pub kinds-spec : {M : Type 1} → statement M
-kinds-spec = tie.close (tie.spec Inv-loop μ-loop loop-holds pair-requires array-read-i cast-y array-read-y cast-y-2 pair-requires-2 cast-i array-write-table cast-least array-write-least add-count array-write-kind add-x loop-less loop-again returns)
+kinds-spec =
+    tie.close
+    (tie.spec
+    Inv-loop
+    μ-loop
+    (λ c κs. search needs)
+    loop-holds
+    is-level-requires
+    is-level-requires-2
+    (λ c. search needs)
+    loop-less
+    loop-again
+    (λ c κs. search needs)
+    find-requires
+    (λ c. search needs)
+    array-write-least
+    add-count
+    (λ c. search needs)
+    (λ c. search needs)
+    loop-again-2
+    returns
+    returns-2)

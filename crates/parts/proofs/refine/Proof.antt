@@ -5,64 +5,80 @@ use native.Mathlib.Omega.{arith}
 use borrow.Author.Needs.{needs}
 use lib.ListN.{length}
 use Rattle.parts.specs.Side.{side}
-use Rattle.parts.proofs.Turns.{After, after-none, after-more, after-few, after-own, after-done}
+use Rattle.parts.proofs.Turns.{After, after-none, after-copied, after-more, after-few, after-own, after-done}
 use Rattle.parts.proofs.refine.Statement.{statement}
 use Rattle.parts.proofs.refine.Tie as tie
 
 abbrev Inv-loop : tie.InvT-loop
-Inv-loop a b n left right count part₀ next₀ parent₀ born₀ r₀ part next parent born r =
+Inv-loop a b left right count n part₀ parent₀ born₀ next₀ r₀ part parent born next r =
     (length part ≡ 256) × (length next ≡ 256) × (length parent ≡ 256) × (length born ≡ 256) × After (side a b n) part parent born r
 
 abbrev μ-loop : tie.MeasureT-loop
-μ-loop a b n left right count part₀ next₀ parent₀ born₀ r₀ part next parent born r = n - r
+μ-loop a b left right count n part₀ parent₀ born₀ next₀ r₀ part parent born next r = n - r
 
 -- there are at most n - 2 rounds
-few : (c : tie.At-loop Inv-loop μ-loop) → c .loop .r ≤ c .before .before .before .before .before .before .before .args .n - 2
-few c = after-few _ (c .before .before .before .before .before .before .before .pre .0 .closed) _ _ _ _ (c .loop .inv .4)
-
-classes-requires : tie.Need-classes-requires Inv-loop μ-loop
-classes-requires c κs = search needs
-
-begin-requires : tie.Need-begin-requires Inv-loop μ-loop
-begin-requires c κs = search needs
+few : (c : tie.At-loop Inv-loop μ-loop) → c .loop .r ≤ c .before .before .before .before .before .args .n - 2
+few c = after-few _ (c .before .before .before .before .before .pre .0 .closed) _ _ _ _ (c .loop .inv .4)
 
 loop-holds : tie.Need-loop-holds Inv-loop μ-loop
-loop-holds c = (c .begin .ensures .0, refl, refl, refl, after-none _ _ (c .begin .ensures .1))
+loop-holds c =
+    let z = c .before .before .before .before .pre .1 .1 in
+    (c .begin .ensures .0, refl, rw (z .1) refl, rw (z .2) refl, rw (z .1, z .2) (after-none _ _ (c .begin .ensures .1)))
 
 add-round : tie.Need-add-round Inv-loop μ-loop
-add-round c = omega (arith, few (c .before .before .before .before .before .before), c .before .before .before .before .before .before .before .before .before .before .before .before .before .fits .n)
+add-round c = omega (arith, few (c .before .before .before .before), c .before .before .before .before .before .before .before .before .before .fits .n)
 
 cast-round : tie.Need-cast-round Inv-loop μ-loop
-cast-round c = let d = c .before .before .before .before .before .before .before .before .before .before .before .before .before .pre .0 in
-    omega (arith, few (c .before .before .before .before .before .before), d .few, d .left .few-states, d .right .few-states)
+cast-round c = let d = c .before .before .before .before .before .before .before .before .before .pre .0 in omega (arith, few (c .before .before .before .before), d .few, d .left .few-states, d .right .few-states)
 
 round-requires : tie.Need-round-requires Inv-loop μ-loop
-round-requires c κs = let d = c .before .before .before .before .before .before .before .before .before .before .before .before .before .pre .0 in
-    let l = c .before .before .before .before .before .before .loop in
-    (d, (c .before .before .before .before .before .before .before .before .before .before .classes .ensures, (after-own _ (d .closed) _ _ _ _ (l .inv .4), (l .inv .1, l .inv .2, l .inv .3))))
+round-requires c κs =
+    let d = c .before .before .before .before .before .before .before .before .before .pre in
+    let l = c .before .before .before .before .loop in
+    (d .0, (d .1 .0, (after-own _ (d .0 .closed) _ _ _ _ (l .inv .4), (l .inv .1, l .inv .2, l .inv .3))))
+
+adopt-requires : tie.Need-adopt-requires Inv-loop μ-loop
+adopt-requires c κs = let d = c .before .before .before .before .before .before .before .before .before .before .before .before .before .pre .0 in (omega (arith, d .few, d .left .few-states, d .right .few-states), c .before .before .before .before .before .before .before .before .loop .inv .0)
 
 add-r : tie.Need-add-r Inv-loop μ-loop
-add-r c = omega (arith, few (c .before .before .before .before .before .before .before .before), c .before .before .before .before .before .before .before .before .before .before .before .before .before .before .before .fits .n)
+add-r c = omega (arith, few (c .before .before .before .before .before .before .before .before .before), c .before .before .before .before .before .before .before .before .before .before .before .before .before .before .fits .n)
 
 loop-less : tie.Need-loop-less Inv-loop μ-loop
-loop-less c = omega (arith, few (c .before .before .before .before .before .before .before .before), c .before .before .before .before .before .before .before .before .before .before .before .before .before .before .before .pre .0 .closed .some)
+loop-less c = omega (arith, few (c .before .before .before .before .before .before .before .before .before), c .before .before .before .before .before .before .before .before .before .before .before .before .before .before .pre .0 .closed .some)
 
 loop-again : tie.Need-loop-again Inv-loop μ-loop
-loop-again c = let d = c .before .before .before .before .before .before .before .before .before .before .before .before .before .before .before .pre .0 in
-    let l = c .before .before .before .before .before .before .before .before .loop in
-    let e = c .before .round .ensures in (
-      e .0 .long ∙ l .inv .1,
+loop-again c =
+    let d = c .before .before .before .before .before .before .before .before .before .before .before .before .before .before .pre .0 in
+    let l = c .before .before .before .before .before .before .before .before .before .loop in
+    let e = c .before .before .before .before .round .ensures in
+    let w = c .adopt .ensures in (
+      w .size ∙ l .inv .0,
       e .0 .long ∙ l .inv .1,
       e .1 .0 .parent-long ∙ l .inv .2,
       e .1 .0 .born-long ∙ l .inv .3,
-      after-more _ (d .closed) _ _ _ _ (l .inv .4) _ _ _ (e .0 .named) (e .1 .0) (e .1 .1 .yes (c .if1 .taken)),
+      after-copied _ (w .inside) (after-more _ (d .closed) _ _ _ _ (l .inv .4) _ _ _ (e .0 .named) (e .1 .0) (e .1 .1 .yes (c .before .before .before .if1 .taken))),
     )
 
 returns : tie.Need-returns Inv-loop μ-loop
-returns c = let d = c .before .before .before .before .before .before .before .before .before .before .before .before .before .before .before .pre .0 in
-    let l = c .before .before .before .before .before .before .before .before .loop in
+returns c =
+    let d = c .before .before .before .before .before .before .before .before .before .before .before .pre .0 in
+    let l = c .before .before .before .before .before .before .loop in
     let e = c .before .round .ensures in
     (after-done _ (d .closed) _ _ _ _ (l .inv .4) _ _ _ (e .0 .named) (e .1 .0) (e .1 .1 .no (c .if1 .left)), (l .inv .0, e .1 .0 .parent-long ∙ l .inv .2, e .1 .0 .born-long ∙ l .inv .3))
 
 pub refine-spec : {M : Type 1} → statement M
-refine-spec = tie.close (tie.spec Inv-loop μ-loop classes-requires begin-requires loop-holds add-round cast-round round-requires add-r loop-less loop-again returns)
+refine-spec =
+    tie.close
+    (tie.spec
+    Inv-loop
+    μ-loop
+    (λ c κs. search needs)
+    loop-holds
+    add-round
+    cast-round
+    round-requires
+    adopt-requires
+    add-r
+    loop-less
+    loop-again
+    returns)

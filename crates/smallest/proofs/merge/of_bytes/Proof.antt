@@ -1,41 +1,33 @@
 -- The classes so far are stored for the bytes below x.
-use Prim.Native.Nat.{_-_, _≤_}
+use Prim.Native.Nat.{_+_, _-_, _≤_}
 use mathlib.Core.Path.{_≡_, refl}
 use native.Mathlib.Omega.{arith}
 use borrow.Author.Needs.{needs}
 use lib.ListN.{getD}
-use Rattle.scope.specs.Limits.{byteValues}
+use Rattle.scope.specs.Limits.{byteValues, classesAt}
+use Rattle.scope.specs.Room.{classOf}
 use Rattle.slices.specs.Parts.{Stored}
 use Rattle.slices.proofs.Laws.{stored-none, stored-more, stored-written}
 use Rattle.smallest.proofs.merge.of_bytes.Statement.{statement}
 use Rattle.smallest.proofs.merge.of_bytes.Tie as tie
 
 abbrev Inv-loop : tie.InvT-loop
-Inv-loop kind sort class₀ x₀ class x = (x ≤ byteValues) × Stored class₀ class 0 x (λ y. getD sort (getD kind y 0) 0)
+Inv-loop from sort class₀ x₀ class x = (x ≤ byteValues) × Stored class₀ class 0 x (λ y. getD sort (classOf from y) 0)
 
 abbrev μ-loop : tie.MeasureT-loop
-μ-loop kind sort class₀ x₀ class x = byteValues - x
+μ-loop from sort class₀ x₀ class x = byteValues - x
 
 loop-holds : tie.Need-loop-holds Inv-loop μ-loop
 loop-holds c = (search needs, stored-none _ _ _)
 
-element-copy-out-class : tie.Need-element-copy-out-class Inv-loop μ-loop
-element-copy-out-class c = search needs
+shared-slice-read-class : tie.Need-shared-slice-read-class Inv-loop μ-loop
+shared-slice-read-class c = omega (arith, c .before .before .before .pre .long, c .before .loop-test .taken)
 
 cast-class : tie.Need-cast-class Inv-loop μ-loop
-cast-class c = omega (arith, c .before .before .before .pre (c .before .before .loop .x) (search needs) (search needs))
+cast-class c = omega (arith, c .shared-slice-known .given (classesAt + c .before .before .loop .x))
 
-element-copy-out-class-2 : tie.Need-element-copy-out-class-2 Inv-loop μ-loop
-element-copy-out-class-2 c = c .before .before .before .pre (c .before .before .loop .x) (search needs) (search needs)
-
-array-write-class : tie.Need-array-write-class Inv-loop μ-loop
-array-write-class c = search needs
-
-add-x : tie.Need-add-x Inv-loop μ-loop
-add-x c = search needs
-
-loop-less : tie.Need-loop-less Inv-loop μ-loop
-loop-less c = search needs
+element-copy-out-class : tie.Need-element-copy-out-class Inv-loop μ-loop
+element-copy-out-class c = omega (arith, c .shared-slice-known .given (classesAt + c .before .before .loop .x))
 
 loop-again : tie.Need-loop-again Inv-loop μ-loop
 loop-again c = (search needs, stored-more (omega arith) (omega arith) refl (c .before .before .before .loop .inv .1))
@@ -44,4 +36,18 @@ returns : tie.Need-returns Inv-loop μ-loop
 returns c = let e : c .before .loop .x ≡ byteValues = omega arith in stored-written (rw e at (c .before .loop .inv .1))
 
 pub of-bytes-spec : {M : Type 1} → statement M
-of-bytes-spec = tie.close (tie.spec Inv-loop μ-loop loop-holds element-copy-out-class cast-class element-copy-out-class-2 array-write-class add-x loop-less loop-again returns)
+of-bytes-spec =
+    tie.close
+    (tie.spec
+    Inv-loop
+    μ-loop
+    loop-holds
+    (λ c. search needs)
+    shared-slice-read-class
+    cast-class
+    element-copy-out-class
+    (λ c. search needs)
+    (λ c. search needs)
+    (λ c. search needs)
+    loop-again
+    returns)

@@ -7,14 +7,14 @@ use lib.ListN.{getD}
 use Rattle.scope.specs.Room.{classOf}
 use Rattle.slices.specs.Parts.{Stored}
 use Rattle.slices.proofs.Laws.{stored-none, stored-more, stored-written}
-use Rattle.smallest.proofs.number.columns.Statement.{statement}
-use Rattle.smallest.proofs.number.columns.Tie as tie
+use Rattle.parts.proofs.columns.Statement.{statement}
+use Rattle.parts.proofs.columns.Tie as tie
 
 abbrev Inv-loop : tie.InvT-loop
-Inv-loop from least kinds column₀ j₀ column j = (j ≤ kinds) × Stored column₀ column 0 j (λ i. classOf from (getD least i 0))
+Inv-loop room least count column₀ j₀ column j = (j ≤ count) × Stored column₀ column 0 j (λ i. classOf room (getD least i 0))
 
 abbrev μ-loop : tie.MeasureT-loop
-μ-loop from least kinds column₀ j₀ column j = kinds - j
+μ-loop room least count column₀ j₀ column j = count - j
 
 loop-holds : tie.Need-loop-holds Inv-loop μ-loop
 loop-holds c = (search needs, stored-none _ _ _)
@@ -44,7 +44,7 @@ loop-again : tie.Need-loop-again Inv-loop μ-loop
 loop-again c = (search needs, stored-more (omega arith) (omega arith) refl (c .before .before .before .loop .inv .1))
 
 returns : tie.Need-returns Inv-loop μ-loop
-returns c = let e : c .before .loop .j ≡ c .before .before .args .kinds = omega arith in stored-written (rw e at (c .before .loop .inv .1))
+returns c = let e : c .before .loop .j ≡ c .before .before .args .count = omega arith in stored-written (rw e at (c .before .loop .inv .1))
 
 pub columns-spec : {M : Type 1} → statement M
 columns-spec = tie.close (tie.spec Inv-loop μ-loop loop-holds element-copy-out-column cast-column add-column shared-slice-read-column array-write-column add-j loop-less loop-again returns)
