@@ -76,7 +76,7 @@ module _ (e : Re) (bytes words : List ℕ) (count last : ℕ) (null : Bool) (g :
     differ = λ i j l k x. o .differ i j l k (like-share (o .thing i) (o .thing j) (o .have i (omega arith)) (o .have j k) .1 x);
   }
 
-  module _ (map : List ℕ) (k : ℕ) (c : Grouped (Like bytes count) map k) where
+  module _ (map : List ℕ) (k : ℕ) (c : Grouped (Like bytes count) map k byteValues) where
     -- each byte is like the first of its class
     pub few-classes : FewClasses e
     few-classes =
@@ -96,7 +96,7 @@ module _ (e : Re) (bytes words : List ℕ) (count last : ℕ) (null : Bool) (g :
     }
 
 -- the classes of a grouping
-pub mapped : {R : ℕ → ℕ → Type 0} {map : List ℕ} {k : ℕ} → Grouped R map k → Mapped map k
+pub mapped : {R : ℕ → ℕ → Type 0} {map : List ℕ} {k : ℕ} → Grouped R map k byteValues → Mapped map k
 mapped c = record {
   some = omega (arith, class-below (c .classes) 0 (omega arith));
   few = c .few;
@@ -130,11 +130,11 @@ module _ (a n : ℕ) (s ys : List ℕ) (h : a ≤ length s) (t : TailKept n (tak
 -- ---- the answer
 
 module _ {bytes words : List ℕ} (count last : ℕ) (null : Bool) (map : List ℕ) {c : Counted} (few : count ≤ positionLimit) (long : Scratch bytes words)
-    (a : GroupAnswer (Like bytes count) map c) where
+    (a : GroupAnswer (Like bytes count) map byteValues c) where
   -- too many classes
   pub built-classes : c ≡ Many → Builds bytes words count last null bytes words Classes
   built-classes y = record {
-    outcome = λ e g. many-classes e bytes words count last null g (subst (GroupAnswer (Like bytes count) map) y a);
+    outcome = λ e g. many-classes e bytes words count last null g (subst (GroupAnswer (Like bytes count) map byteValues) y a);
     bytes-kept = all-kept _ _;
     words-kept = all-kept _ _;
   }
@@ -143,8 +143,8 @@ module _ {bytes words : List ℕ} (count last : ℕ) (null : Bool) (map : List �
   module _ {k : ℕ} {masks : List ℕ} {finals : ℕ} {ys words′ : List ℕ} {r : Built} (y : c ≡ Few k) (m : Masked bytes count map masks byteValues)
       (f : finals ≡ bitOr last (given null 1))
       (x : ImageAnswer (take (length bytes - imageAt) (drop imageAt bytes)) words masks map finals ys words′ r) where
-    groups : Grouped (Like bytes count) map k
-    groups = subst (GroupAnswer (Like bytes count) map) y a
+    groups : Grouped (Like bytes count) map k byteValues
+    groups = subst (GroupAnswer (Like bytes count) map byteValues) y a
 
     within : imageAt ≤ length bytes
     within = omega (arith, long .bytes-long)

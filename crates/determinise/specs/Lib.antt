@@ -1,5 +1,6 @@
 -- From sets of positions to a room image, one file a pass.
 pub mod Layout
+pub mod Runs
 pub mod Group
 pub mod Masks
 pub mod Reach

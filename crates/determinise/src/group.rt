@@ -5,6 +5,7 @@ ghost use lib.ListN.{length};
 ghost use Rattle.scope.specs.Limits.{byteValues, positionLimit};
 ghost use Rattle.determinise.specs.Layout.{byteSet, bitAt};
 ghost use Rattle.determinise.specs.Group.{Like, Key, Below, GroupAnswer};
+ghost use Rattle.determinise.specs.Runs.{Listed, RunsOf, Spread};
 use crate::BYTE_SET;
 use crate::Counted;
 use scope::Machine;
@@ -24,18 +25,25 @@ pub fn bit(bytes: &[u8], p: usize, b: usize) -> usize
     (x >> (b % 8)) % 2
 }
 
-// The classes of `old`, split by the position p + 1. A class and a bit make a key; `names` has for each key 1 more than its class, 0 if it has none yet.
-fn split(bytes: &[u8], p: usize, old: [u8; Machine::BYTES]) -> Groups
+// The classes of the things in `old`, split by whether the position p + 1 holds their bytes. A class and a bit make a key; `names` has for each key 1 more than
+// its class, 0 if it has none yet.
+fn split(
+    bytes: &[u8],
+    p: usize,
+    byte: &[u8; Machine::BYTES],
+    count: usize,
+    old: [u8; Machine::BYTES],
+) -> Groups
     requires { ⌜ p * byteSet + byteSet ≤ length (now bytes) ⌝ }
-    requires { ⌜ Below old ⌝ }
-    ensures { λ r. ⌜ GroupAnswer (Key (now (bytes .entry)) p old) (r .map) (r .answer) ⌝ }
+    requires { ⌜ Listed (now byte) count × Below old count ⌝ }
+    ensures { λ r. ⌜ GroupAnswer (Key (now (bytes .entry)) p (now (byte .entry)) old) (r .map) count (r .answer) ⌝ }
 {
     let mut names = [0u8; 2 * Machine::CLASSES];
     let mut map = [0u8; Machine::BYTES];
     let mut k: usize = 0;
-    let mut b: usize = 0;
-    while b < Machine::BYTES {
-        let key = 2 * (old[b] as usize) + bit(bytes, p, b);
+    let mut i: usize = 0;
+    while i < count {
+        let key = 2 * (old[i] as usize) + bit(bytes, p, byte[i] as usize);
         let name = names[key];
         if name == 0 {
             if k == Machine::CLASSES {
@@ -44,13 +52,13 @@ fn split(bytes: &[u8], p: usize, old: [u8; Machine::BYTES]) -> Groups
                     answer: Counted::Many,
                 };
             }
-            map[b] = k as u8;
+            map[i] = k as u8;
             k += 1;
             names[key] = k as u8;
         } else {
-            map[b] = name - 1;
+            map[i] = name - 1;
         }
-        b += 1;
+        i += 1;
     }
     Groups {
         map: map,
@@ -58,16 +66,38 @@ fn split(bytes: &[u8], p: usize, old: [u8; Machine::BYTES]) -> Groups
     }
 }
 
-// The classes by all positions, from the one class of all bytes, split by one position after the other.
-pub fn group(bytes: &[u8], count: usize) -> Groups
-    requires { ⌜ (count ≤ positionLimit) × (count * byteSet ≤ length (now bytes)) ⌝ }
-    ensures { λ r. ⌜ GroupAnswer (Like (now (bytes .entry)) count) (r .map) (r .answer) ⌝ }
+// For each byte what its run has in `class`.
+fn spread(
+    last: &[u8; Machine::BYTES],
+    runs: usize,
+    class: [u8; Machine::BYTES],
+) -> [u8; Machine::BYTES]
+    requires { ⌜ Listed (now last) runs ⌝ }
+    ensures { λ r. ⌜ Spread (now (last .entry)) runs class r ⌝ }
 {
     let mut map = [0u8; Machine::BYTES];
+    let mut from: usize = 0;
+    let mut i: usize = 0;
+    while i < runs {
+        let to = last[i] as usize + 1;
+        slices::fill(&mut map, from, to, class[i]);
+        from = to;
+        i += 1;
+    }
+    map
+}
+
+// The classes by all positions: the runs, all of one class, are split by one position after the other, and their classes spread over the bytes.
+pub fn group(bytes: &[u8], count: usize, last: &[u8; Machine::BYTES], runs: usize) -> Groups
+    requires { ⌜ (count ≤ positionLimit) × (count * byteSet ≤ length (now bytes)) ⌝ }
+    requires { ⌜ RunsOf (Like (now bytes) count) (now last) runs ⌝ }
+    ensures { λ r. ⌜ GroupAnswer (Like (now (bytes .entry)) count) (r .map) byteValues (r .answer) ⌝ }
+{
+    let mut class = [0u8; Machine::BYTES];
     let mut k: usize = 1;
     let mut p: usize = 0;
     while p < count {
-        let groups = split(bytes, p, map);
+        let groups = split(bytes, p, last, runs, class);
         let counted = groups.answer;
         match counted {
             Counted::Few(n) => {
@@ -77,9 +107,10 @@ pub fn group(bytes: &[u8], count: usize) -> Groups
                 return groups;
             }
         }
-        map = groups.map;
+        class = groups.map;
         p += 1;
     }
+    let map = spread(last, runs, class);
     Groups {
         map: map,
         answer: Counted::Few(k),

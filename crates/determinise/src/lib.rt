@@ -1,5 +1,5 @@
-// From the sets of positions of an expression to a sound room image whose states are the reached sets. One file a pass: `group` gives each byte value its
-// class, `masks` each class its positions, `reach` finds the reached sets row by row, `image` writes the room around them.
+// From the sets of positions of an expression to a sound room image whose states are the reached sets. One file a pass: `runs` finds the
+// byte values that go together, `group` gives each its class, `masks` each class its positions, `reach` finds the reached sets row by row, `image` writes the room around them.
 ghost use mathlib.Core.Path.{_≡_};
 ghost use Prim.Native.Nat.{_+_, _*_, _≤_};
 ghost use lib.Bits.{bitOr};
@@ -15,6 +15,7 @@ mod group;
 mod image;
 mod masks;
 mod reach;
+mod runs;
 
 // The bytes hold the byte set of each position, then the image.
 pub const BYTE_SET: usize = 32;
@@ -49,12 +50,15 @@ pub fn build(bytes: &mut [u8], words: &mut [u64], count: usize, last: Set, null:
     requires { ⌜ (count ≤ positionLimit) × Scratch (now bytes) (now words) ⌝ }
     ensures { λ r. ⌜ Builds (now (bytes .entry)) (now (words .entry)) count (value (last .words)) null (now (bytes .exit)) (now (words .exit)) r ⌝ }
 {
-    let groups = group::group(bytes, count);
+    let found = runs::find(bytes, count);
+    let ends = found.last;
+    let runs = found.count;
+    let groups = group::group(bytes, count, &ends, runs);
     let counted = groups.answer;
     match counted {
         Counted::Few(k) => {
             let map = groups.map;
-            let masks = masks::class_masks(bytes, count, map);
+            let masks = masks::class_masks(bytes, count, &ends, runs, map);
             image::determinise(
                 &mut bytes[IMAGE_AT..],
                 words,

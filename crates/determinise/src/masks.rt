@@ -6,6 +6,7 @@ ghost use Rattle.scope.specs.Limits.{byteValues, positionLimit};
 ghost use Rattle.sets.specs.Value.{value};
 ghost use Rattle.determinise.specs.Layout.{byteSet};
 ghost use Rattle.determinise.specs.Group.{Like, Grouped};
+ghost use Rattle.determinise.specs.Runs.{RunsOf};
 ghost use Rattle.determinise.specs.Masks.{maskOf, Masked};
 use crate::group;
 use scope::Machine;
@@ -27,26 +28,29 @@ fn byte_mask(bytes: &[u8], count: usize, b: usize) -> Set
     mask
 }
 
-// The masks of the classes: each class has that of its smallest byte, with which all its bytes agree.
+// The masks of the classes: each class has that of its first run, with which all its bytes agree.
 pub fn class_masks(
     bytes: &[u8],
     count: usize,
+    last: &[u8; Machine::BYTES],
+    runs: usize,
     map: [u8; Machine::BYTES],
 ) -> [u64; Machine::CLASSES * Machine::SET_WORDS]
     requires { ⌜ (count ≤ positionLimit) × (count * byteSet ≤ length (now bytes)) ⌝ }
-    requires { ⌜ ((k : ℕ) × Grouped (Like (now bytes) count) map k) ⌝ }
+    requires { ⌜ RunsOf (Like (now bytes) count) (now last) runs × ((k : ℕ) × Grouped (Like (now bytes) count) map k byteValues) ⌝ }
     ensures { λ r. ⌜ Masked (now (bytes .entry)) count map r byteValues ⌝ }
 {
     let mut masks = [0u64; Machine::CLASSES * Machine::SET_WORDS];
     let mut n: usize = 0;
-    let mut b: usize = 0;
-    while b < Machine::BYTES {
+    let mut i: usize = 0;
+    while i < runs {
+        let b = last[i] as usize;
         let class = map[b] as usize;
         if class == n {
             sets::store(&mut masks, class, byte_mask(bytes, count, b));
             n += 1;
         }
-        b += 1;
+        i += 1;
     }
     masks
 }
