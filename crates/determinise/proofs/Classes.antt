@@ -2,7 +2,7 @@
 --   classes-old, classes-new: a thing more, of a class that is there, or the first of a new one
 --   class-below, class-used: a class is below their number, and each has a thing
 --   Splitting: the loop of a split: the classes of the keys of the things below b, and the table of their names
---   splitting-none, splitting-old, splitting-new, splitting-full, splitting-all: its turns
+--   splitting-none, splitting-below, splitting-old, splitting-new, splitting-full, splitting-all: its turns
 --   like-key: splitting by a position
 --   group-none, group-below, group-next, group-many: the loop over the positions
 use Prim.Native.Nat.{ℕ, zero, suc, _+_, _-_, _*_, _≤_, _<_, max}
@@ -85,6 +85,8 @@ pub record Splitting (m : List ℕ) (p : ℕ) (byte old names map : List ℕ) (k
   pub names-size : length names ≡ 2 * classLimit
   pub map-size : length map ≡ byteValues
   pub few : k ≤ classLimit
+  -- the old classes stand from b on
+  pub ahead : (a : ℕ) → b ≤ a → getD map a 0 ≡ getD old a 0
   pub classes : Classes (Key m p byte old) (λ a. getD map a 0) k b
   pub filled : (a : ℕ) → a < b → getD names (keyOf m p byte old a) 0 ≡ getD map a 0 + 1
   pub known : (i : ℕ) → 0 < getD names i 0 → (a : ℕ) × (a < b) × (keyOf m p byte old a ≡ i)
@@ -92,34 +94,43 @@ pub record Splitting (m : List ℕ) (p : ℕ) (byte old names map : List ℕ) (k
 bit-small : (m : List ℕ) (p b : ℕ) → bitAt m p b < 2
 bit-small m p b = mod-lt _ (lit< tt)
 
-pub splitting-none : (m : List ℕ) (p : ℕ) (byte old : List ℕ) → Splitting m p byte old (replicate (2 * classLimit) 0) (replicate byteValues 0) 0 0
+pub splitting-none : (m : List ℕ) (p : ℕ) (byte old : List ℕ) → length old ≡ byteValues → Splitting m p byte old (replicate (2 * classLimit) 0) old 0 0
 unfolding met
-splitting-none m p byte old = record {
+splitting-none m p byte old size = record {
   names-size = length-replicate {A = ℕ} (2 * classLimit) 0;
-  map-size = length-replicate {A = ℕ} byteValues 0;
+  map-size = size;
   few = omega arith;
+  ahead = λ a h. refl;
   classes = record { same = λ a b h. absurd (omega arith); smallest = λ a h. absurd (omega arith); count = refl };
   filled = λ a h. absurd (omega arith);
   known = λ i h. absurd (omega (arith, zeros (2 * classLimit) i));
 }
 
+-- the old class of b is below 64
+pub splitting-below : {m : List ℕ} {p : ℕ} {byte old names map : List ℕ} {k b e : ℕ} → Below old e → Splitting m p byte old names map k b → b < e
+    → getD map b 0 < classLimit
+splitting-below {b = b} below s h = omega (arith, below b h, s .ahead b (omega arith))
+
 -- x: the bit of b, one of e things
 module _ {m : List ℕ} {p : ℕ} {byte old names map : List ℕ} {k b e x : ℕ} (fit : e ≤ byteValues) (below : Below old e) (s : Splitting m p byte old names map k b)
     (small : b < e) (ex : x ≡ bitAt m p (getD byte b 0)) where
-  at : 2 * getD old b 0 + x ≡ keyOf m p byte old b
-  at = ap (λ (n : ℕ). 2 * getD old b 0 + n) ex
+  at : 2 * getD map b 0 + x ≡ keyOf m p byte old b
+  at = ap₂ (λ (y z : ℕ). 2 * y + z) (s .ahead b (omega arith)) ex
 
   kept : (v a : ℕ) → a < b → getD (set map b v) a 0 ≡ getD map a 0
   kept v a h = getD-set-other map b a v 0 (λ e. omega arith)
+
+  later : (v a : ℕ) → b + 1 ≤ a → getD (set map b v) a 0 ≡ getD old a 0
+  later v a h = getD-set-other map b a v 0 (λ e. omega arith) ∙ s .ahead a (omega arith)
 
   here : (v : ℕ) → getD (set map b v) b 0 ≡ v
   here v = getD-set-same map b v 0 (omega (arith, s .map-size))
 
   -- the key has a class
-  pub splitting-old : (getD names (2 * getD old b 0 + x) 0 ≡ 0 → ⊥)
-      → Splitting m p byte old names (set map b (getD names (2 * getD old b 0 + x) 0 - 1)) k (b + 1)
+  pub splitting-old : (getD names (2 * getD map b 0 + x) 0 ≡ 0 → ⊥)
+      → Splitting m p byte old names (set map b (getD names (2 * getD map b 0 + x) 0 - 1)) k (b + 1)
   splitting-old ne =
-      let key = 2 * getD old b 0 + x in
+      let key = 2 * getD map b 0 + x in
       let v = getD names key 0 - 1 in
       let (a, l, e) = s .known key (omega arith) in
       let q : v ≡ getD map a 0 = omega (arith, s .filled a l, ap (λ (i : ℕ). getD names i 0) e) in
@@ -127,27 +138,29 @@ module _ {m : List ℕ} {p : ℕ} {byte old names map : List ℕ} {k b e x : ℕ
         names-size = s .names-size;
         map-size = length-set map b v ∙ s .map-size;
         few = s .few;
+        ahead = later v;
         classes = classes-old (keyOf m p byte old) (λ d. getD map d 0) (λ d. getD (set map b v) d 0) k b (s .classes) (kept v) a l (e ∙ at) (here v ∙ q);
         filled = below-more (λ (d : ℕ). getD names (keyOf m p byte old d) 0 ≡ getD (set map b v) d 0 + 1) b
             (λ d g. s .filled d g ∙ ap (λ (i : ℕ). i + 1) (sym (kept v d g))) (omega (arith, here v, ap (λ (i : ℕ). getD names i 0) at));
         known = λ i g. (let (d, y, z) = s .known i g in (d, omega arith, z));
       }
 
-  module _ (z : getD names (2 * getD old b 0 + x) 0 ≡ 0) where
+  module _ (z : getD names (2 * getD map b 0 + x) 0 ≡ 0) where
     -- nothing before b has its key
     fresh : (a : ℕ) → a < b → keyOf m p byte old a ≡ keyOf m p byte old b → ⊥
     fresh a h e = omega (arith, s .filled a h, ap (λ (i : ℕ). getD names i 0) (e ∙ sym at))
 
     -- the key takes the next class
-    pub splitting-new : (k ≡ classLimit → ⊥) → Splitting m p byte old (set names (2 * getD old b 0 + x) (k + 1)) (set map b k) (k + 1) (b + 1)
+    pub splitting-new : (k ≡ classLimit → ⊥) → Splitting m p byte old (set names (2 * getD map b 0 + x) (k + 1)) (set map b k) (k + 1) (b + 1)
     splitting-new ne =
-        let key = 2 * getD old b 0 + x in
-        let room : key < length names = omega (arith, s .names-size, below b small, bit-small m p (getD byte b 0)) in
+        let key = 2 * getD map b 0 + x in
+        let room : key < length names = omega (arith, s .names-size, splitting-below below s small, ex, bit-small m p (getD byte b 0)) in
         let named : getD (set names key (k + 1)) key 0 ≡ k + 1 = getD-set-same names key (k + 1) 0 room in
         record {
           names-size = length-set names key (k + 1) ∙ s .names-size;
           map-size = length-set map b k ∙ s .map-size;
           few = omega (arith, s .few);
+          ahead = later k;
           classes = classes-new (keyOf m p byte old) (λ d. getD map d 0) (λ d. getD (set map b k) d 0) k b (s .classes) (kept k) fresh (here k);
           filled = below-more (λ (d : ℕ). getD (set names key (k + 1)) (keyOf m p byte old d) 0 ≡ getD (set map b k) d 0 + 1) b
               (λ d g. getD-set-other names key (keyOf m p byte old d) (k + 1) 0 (λ e. fresh d g (e ∙ at)) ∙ s .filled d g ∙ ap (λ (i : ℕ). i + 1) (sym (kept k d g)))
@@ -223,11 +236,11 @@ module _ (m byte : List ℕ) {p : ℕ} {old : List ℕ} {k e : ℕ} (g : Grouped
         }
 
     -- 65 things whose bytes a position tells apart: their bytes stay so
-    pub group-many : (n : ℕ) → p < n → Listed byte e → r ≡ Many → GroupAnswer (Like m n) map byteValues r
+    pub group-many : (n : ℕ) → p < n → Listed byte e → r ≡ Many → Over classLimit (λ (b : ℕ). b < byteValues) (Like m n)
     group-many n h l y =
         let o = subst (GroupAnswer (Key m p byte old) map e) y a in
-        subst (GroupAnswer (Like m n) map byteValues) (sym y) (record {
+        record {
           thing = λ i. getD byte (o .thing i) 0;
           have = λ i z. l .byte (o .thing i) (o .have i z);
           differ = λ i j l z x. o .differ i j l z (like-key m p byte old k e g (o .thing i) (o .thing j) (o .have i (omega arith)) (o .have j z) .1 (λ q w. x q (omega arith)));
-        })
+        }

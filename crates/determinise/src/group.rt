@@ -25,45 +25,38 @@ pub fn bit(bytes: &[u8], p: usize, b: usize) -> usize
     (x >> (b % 8)) % 2
 }
 
-// The classes of the things in `old`, split by whether the position p + 1 holds their bytes. A class and a bit make a key; `names` has for each key 1 more than
-// its class, 0 if it has none yet.
+// Splits the classes of the things by whether the position p + 1 holds their bytes, and answers how many there are. A class and a bit make a key; `names` has
+// for each key 1 more than its class, 0 if it has none yet.
 fn split(
     bytes: &[u8],
     p: usize,
     byte: &[u8; Machine::BYTES],
     count: usize,
-    old: [u8; Machine::BYTES],
-) -> Groups
+    class: &mut [u8; Machine::BYTES],
+) -> Counted
     requires { ⌜ p * byteSet + byteSet ≤ length (now bytes) ⌝ }
-    requires { ⌜ Listed (now byte) count × Below old count ⌝ }
-    ensures { λ r. ⌜ GroupAnswer (Key (now (bytes .entry)) p (now (byte .entry)) old) (r .map) count (r .answer) ⌝ }
+    requires { ⌜ Listed (now byte) count × (length (now class) ≡ byteValues) × Below (now class) count ⌝ }
+    ensures { λ r. ⌜ GroupAnswer (Key (now (bytes .entry)) p (now (byte .entry)) (now (class .entry))) (now (class .exit)) count r ⌝ }
 {
     let mut names = [0u8; 2 * Machine::CLASSES];
-    let mut map = [0u8; Machine::BYTES];
     let mut k: usize = 0;
     let mut i: usize = 0;
     while i < count {
-        let key = 2 * (old[i] as usize) + bit(bytes, p, byte[i] as usize);
+        let key = 2 * (class[i] as usize) + bit(bytes, p, byte[i] as usize);
         let name = names[key];
         if name == 0 {
             if k == Machine::CLASSES {
-                return Groups {
-                    map: map,
-                    answer: Counted::Many,
-                };
+                return Counted::Many;
             }
-            map[i] = k as u8;
+            class[i] = k as u8;
             k += 1;
             names[key] = k as u8;
         } else {
-            map[i] = name - 1;
+            class[i] = name - 1;
         }
         i += 1;
     }
-    Groups {
-        map: map,
-        answer: Counted::Few(k),
-    }
+    Counted::Few(k)
 }
 
 // For each byte what its run has in `class`.
@@ -97,17 +90,18 @@ pub fn group(bytes: &[u8], count: usize, last: &[u8; Machine::BYTES], runs: usiz
     let mut k: usize = 1;
     let mut p: usize = 0;
     while p < count {
-        let groups = split(bytes, p, last, runs, class);
-        let counted = groups.answer;
+        let counted = split(bytes, p, last, runs, &mut class);
         match counted {
             Counted::Few(n) => {
                 k = n;
             }
             Counted::Many => {
-                return groups;
+                return Groups {
+                    map: class,
+                    answer: Counted::Many,
+                };
             }
         }
-        class = groups.map;
         p += 1;
     }
     let map = spread(last, runs, class);

@@ -19,13 +19,13 @@ loop-holds : tie.Need-loop-holds Inv-loop μ-loop
 loop-holds c = let a = c .before .args in (search needs, group-none (a .bytes .now) (a .last .now) _ (omega (arith, c .before .pre .1 .run 0 (omega arith))))
 
 split-requires : tie.Need-split-requires Inv-loop μ-loop
-split-requires c κs = let a = c .before .before .before .args in (search needs, (c .before .before .before .pre .1 .listed, group-below (a .bytes .now) (a .last .now) (c .before .loop .inv .1)))
+split-requires c κs = let a = c .before .before .before .before .args in (search needs, (c .before .before .before .before .pre .1 .listed, c .before .before .loop .inv .1 .size, group-below (a .bytes .now) (a .last .now) (c .before .before .loop .inv .1)))
 
 returns : tie.Need-returns Inv-loop μ-loop
-returns c = let s = c .before .before in let a = s .before .before .before .before .args in group-many (a .bytes .now) (a .last .now) (s .before .before .loop .inv .1) _ (s .split .ensures) _ (s .before .loop-test .taken) (s .before .before .before .before .pre .1 .listed) (c .enum-told .given .1)
+returns c = let s = c .before .before in let a = s .before .before .before .before .before .args in group-many (a .bytes .now) (a .last .now) (s .before .before .before .loop .inv .1) _ (s .split .ensures) _ (s .before .before .loop-test .taken) (s .before .before .before .before .before .pre .1 .listed) (c .enum-told .given .1)
 
 loop-again : tie.Need-loop-again Inv-loop μ-loop
-loop-again c = let s = c .before .before .before .before in let a = s .before .before .before .before .args in (search needs, group-next (a .bytes .now) (a .last .now) (s .before .before .loop .inv .1) _ (s .split .ensures) _ (c .before .before .counted .given .1))
+loop-again c = let s = c .before .before .before in let a = s .before .before .before .before .before .args in (search needs, group-next (a .bytes .now) (a .last .now) (s .before .before .before .loop .inv .1) _ (s .split .ensures) _ (c .before .counted .given .1))
 
 spread-requires : tie.Need-spread-requires Inv-loop μ-loop
 spread-requires c κs = c .before .before .before .pre .1 .listed
