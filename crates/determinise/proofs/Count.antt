@@ -1,5 +1,5 @@
 -- Numbers in use, and one thing too many.
---   met-next, met-same, met-used: one number more is read; equal numbers were read; a number in use was read
+--   met-next, met-same, met-used, met-least: one number more is read; equal numbers were read; a number in use was read; a bound of what was read
 --   over-one: n things of which no two are alike, and one more, are more than n
 --   within-all: things one of which is like each are at most as many as they are
 use Prim.Native.Nat.{ℕ, zero, suc, _+_, _≤_, _<_, max}
@@ -30,6 +30,12 @@ met-used f (suc x) c a h = elim (split c (met f 0 x)) [
   | inl k ↦ (let (y, l, e) = met-used f x c (λ y l. a y (omega arith)) k in (y, omega arith, e))
   | inr k ↦ (x, omega arith, omega (arith, a x (omega arith)))
 ]
+
+-- no more numbers are in use than a bound of what was read
+pub met-least : (f : ℕ → ℕ) (x v : ℕ) → ((y : ℕ) → y < x → f y < v) → met f 0 x ≤ v
+unfolding met
+met-least f zero v h = omega arith
+met-least f (suc x) v h = omega (arith, met-least f x v (λ y l. h y (omega arith)), h x (omega arith))
 
 -- the things g 0 .. g (n - 1), and x
 pub over-one : {A : Type 0} (P : A → Type 0) (Alike : A → A → Type 0) (n : ℕ) (g : (i : ℕ) → i < n → A) (x : A) → ((i : ℕ) (h : i < n) → P (g i h)) → P x

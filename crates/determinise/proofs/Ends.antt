@@ -7,7 +7,7 @@
 --   Listing: the loop over the bits: the runs that end before b
 --   listing-none, listing-pass, listing-eight, listing-more, listing-all: its turns
 use Prim.Native.Nat.{ℕ, zero, suc, _+_, _-_, _*_, _/_, _%_, _^_, _≤_, _<_}
-use mathlib.Core.Path.{_≡_, refl, sym, ap, _∙_}
+use mathlib.Core.Path.{_≡_, refl, sym, _∙_}
 use mathlib.Core.List.{List}
 use mathlib.Core.Logic.{_⊎_, inl, inr}
 use native.Mathlib.Nat.{zero-div}
@@ -20,12 +20,11 @@ use lib.ListN.{length, getD, set, length-set, replicate, length-replicate}
 use lib.Seq.{getD-set-same, getD-set-other}
 use Rattle.scope.specs.Limits.{byteValues}
 use Rattle.scope.proofs.Bits.{digit}
-use Rattle.scope.proofs.Lists.{zeros}
 use Rattle.scope.proofs.Tests.{split}
 use Rattle.sets.proofs.Words.{set-more}
 use Rattle.determinise.specs.Layout.{byteSet, bitAt}
 use Rattle.determinise.specs.Group.{Like}
-use Rattle.determinise.specs.Runs.{Joined, Noted, Listed, In, RunsOf}
+use Rattle.determinise.specs.Runs.{Joined, Noted, In, RunsOf}
 
 -- ---- one position
 
@@ -65,10 +64,17 @@ half-bit x c (suc (suc (suc (suc (suc (suc (suc k))))))) h = absurd (omega arith
 next-bit : (m : List ℕ) (p b : ℕ) → getD m (p * byteSet + b / 8) 0 < 256
     → (getD m (p * byteSet + b / 8) 0 / 2 + getD m (p * byteSet + b / 8 + 1) 0 % 2 * 128) / 2 ^ (b % 8) % 2 ≡ bitAt m p (b + 1)
 next-bit m p b small = elim (split (b % 8) 7) [
-  | inl h ↦ (let u : (b + 1) / 8 ≡ b / 8 = omega arith in let v : (b + 1) % 8 ≡ b % 8 + 1 = omega arith in
-      rw (u, v) (half-bit (getD m (p * byteSet + b / 8) 0) (getD m (p * byteSet + b / 8 + 1) 0 % 2) (b % 8) h))
-  | inr h ↦ (let u : p * byteSet + (b + 1) / 8 ≡ p * byteSet + b / 8 + 1 = omega arith in let v : (b + 1) % 8 ≡ 0 = omega arith in let w : b % 8 ≡ 7 = omega arith in
-      rw (u, v, w) (omega arith))
+  | inl h ↦ (
+      let u : (b + 1) / 8 ≡ b / 8 = omega arith in
+      let v : (b + 1) % 8 ≡ b % 8 + 1 = omega arith in
+      rw (u, v) (half-bit (getD m (p * byteSet + b / 8) 0) (getD m (p * byteSet + b / 8 + 1) 0 % 2) (b % 8) h)
+      )
+  | inr h ↦ (
+      let u : p * byteSet + (b + 1) / 8 ≡ p * byteSet + b / 8 + 1 = omega arith in
+      let v : (b + 1) % 8 ≡ 0 = omega arith in
+      let w : b % 8 ≡ 7 = omega arith in
+      rw (u, v, w) (omega arith)
+      )
 ]
 
 pub record Noting (m : List ℕ) (p : ℕ) (old new : List ℕ) (g : ℕ) : Type 0 where
@@ -76,9 +82,11 @@ pub record Noting (m : List ℕ) (p : ℕ) (old new : List ℕ) (g : ℕ) : Type
   pub bytes : (i : ℕ) → i < g → getD m (p * byteSet + i) 0 < 256
   pub noted : (i : ℕ) → i < g → getD new i 0 ≡ edges (getD old i 0) (getD m (p * byteSet + i) 0) (getD m (p * byteSet + i + 1) 0)
 
+-- no byte of the set
 pub noting-none : (m : List ℕ) (p : ℕ) (old : List ℕ) → Noting m p old (replicate byteSet 0) 0
 noting-none m p old = record { size = length-replicate {A = ℕ} byteSet 0; bytes = λ i h. absurd (omega arith); noted = λ i h. absurd (omega arith) }
 
+-- one byte more
 pub noting-more : {m : List ℕ} {p : ℕ} {old new : List ℕ} {g : ℕ} → Noting m p old new g → g < byteSet → getD m (p * byteSet + g) 0 < 256
     → Noting m p old (set new g (edges (getD old g 0) (getD m (p * byteSet + g) 0) (getD m (p * byteSet + g + 1) 0))) (g + 1)
 noting-more {m} {p} {old} {new} {g} x h small = record {
@@ -87,6 +95,7 @@ noting-more {m} {p} {old} {new} {g} x h small = record {
   noted = set-more {f = λ i. edges (getD old i 0) (getD m (p * byteSet + i) 0) (getD m (p * byteSet + i + 1) 0)} new g (omega (arith, x .size)) (x .noted);
 }
 
+-- all of them
 pub noting-all : {m : List ℕ} {p : ℕ} {old new : List ℕ} {g : ℕ} → byteSet ≤ g → Noting m p old new g → Noted m p old new
 noting-all {m} {p} {old} {new} {g} h x b l z =
     let flat : 0 * byteSet + b / 8 ≡ b / 8 = omega arith in
@@ -100,9 +109,11 @@ noting-all {m} {p} {old} {new} {g} h x b l z =
 abbrev pub Quiet : List ℕ → ℕ → List ℕ → Type 0
 Quiet m n ends = (b : ℕ) → b < byteValues → bitAt ends 0 b ≡ 0 → Like m n b (b + 1)
 
+-- no position
 pub quiet-none : (m ends : List ℕ) → Quiet m 0 ends
 quiet-none m ends b h z p l = absurd (omega arith)
 
+-- one position more
 pub quiet-more : (m : List ℕ) (p : ℕ) (old new : List ℕ) → Quiet m p old → Noted m p old new → Quiet m (p + 1) new
 quiet-more m p old new q x b h z = let (u, v) = x b h z in below-more (λ (i : ℕ). bitAt m i b ≡ bitAt m i (b + 1)) p (q b h u) v
 
@@ -111,6 +122,7 @@ quiet-joined : (m : List ℕ) (n : ℕ) (ends : List ℕ) → Quiet m n ends →
 quiet-joined m n ends q a b h = le-ind (λ (c : ℕ). c < byteValues → Joined ends a c → Like m n a c) (λ l j p k. refl)
     (λ c l go s j p k. go (omega arith) (λ d w v. j d (omega arith) v) p k ∙ (let t = q c (omega arith) (j c (omega arith) l) p k in rw add-one at t)) b h
 
+-- the runs up to the ends are runs of bytes that are alike
 pub quiet-runs : (m : List ℕ) (n : ℕ) (ends last : List ℕ) (count : ℕ) → Quiet m n ends → RunsOf (Joined ends) last count → RunsOf (Like m n) last count
 quiet-runs m n ends last count q r = record {
   listed = r .listed;
@@ -137,6 +149,7 @@ pub record Listing (ends last : List ℕ) (n b : ℕ) : Type 0 where
   pub joins : (a : ℕ) → After last n a → Joined ends a b
   pub run : (a : ℕ) → Reached ends last n a ⊎ After last n a
 
+-- no run yet
 pub listing-none : (ends : List ℕ) → Listing ends (replicate byteValues 0) 0 0
 listing-none ends = record {
   size = length-replicate {A = ℕ} byteValues 0;

@@ -3,7 +3,7 @@
 --   spreading-none, spreading-fits, spreading-more, spreading-all: its turns
 --   group-spread: the classes of the bytes by those of their runs
 --   group-runs: the first run of each class is that of its smallest byte
-use Prim.Native.Nat.{ℕ, zero, suc, _+_, _≤_, _<_}
+use Prim.Native.Nat.{ℕ, _+_, _≤_, _<_}
 use mathlib.Core.Path.{_≡_, refl, sym, ap, _∙_}
 use mathlib.Core.List.{List}
 use mathlib.Core.Logic.{inl, inr}
@@ -17,7 +17,7 @@ use Rattle.scope.proofs.Tests.{split}
 use Rattle.slices.specs.Parts.{Stored}
 use Rattle.determinise.specs.Group.{Like, By, Grouped}
 use Rattle.determinise.specs.Runs.{Listed, In, RunsOf, Spread}
-use Rattle.determinise.proofs.Count.{met-used}
+use Rattle.determinise.proofs.Count.{met-used, met-least}
 use Rattle.determinise.proofs.Classes.{class-below}
 
 pub record Spreading (last class map : List ℕ) (from i : ℕ) : Type 0 where
@@ -26,6 +26,7 @@ pub record Spreading (last class map : List ℕ) (from i : ℕ) : Type 0 where
   pub least : (b : ℕ) → ((j : ℕ) → j < i → getD last j 0 < b) → from ≤ b
   pub each : (j : ℕ) → j < i → (b : ℕ) → In last j b → getD map b 0 ≡ getD class j 0
 
+-- no run
 pub spreading-none : (last class : List ℕ) → Spreading last class (replicate byteValues 0) 0 0
 spreading-none last class = record {
   size = length-replicate {A = ℕ} byteValues 0;
@@ -54,14 +55,8 @@ module _ {last class map : List ℕ} {from i e : ℕ} (l : Listed last e) (h : i
 pub spreading-all : {last class map : List ℕ} {from i e : ℕ} → e ≤ i → Spreading last class map from i → Spread last e class map
 spreading-all h x = record { size = x .size; each = λ j k. x .each j (omega arith) }
 
--- numbers in use are below a bound of all that was read
-met-least : (f : ℕ → ℕ) (x v : ℕ) → ((y : ℕ) → y < x → f y < v) → met f 0 x ≤ v
-unfolding met
-met-least f zero v h = omega arith
-met-least f (suc x) v h = omega (arith, met-least f x v (λ y l. h y (omega arith)), h x (omega arith))
-
 module _ (m : List ℕ) (n : ℕ) {last : List ℕ} {e : ℕ} (r : RunsOf (Like m n) last e) where
-  -- the classes of the bytes are those of their runs
+  -- class: of the runs, map: of the bytes
   module _ {class map : List ℕ} {k : ℕ} (g : Grouped (By (Like m n) last) class k e) (s : Spread last e class map) where
     -- a byte has the class of a run with a byte like it
     class-like : (b : ℕ) → b < byteValues → (i : ℕ) → i < e → Like m n b (getD last i 0) → getD map b 0 ≡ getD class i 0
@@ -78,6 +73,7 @@ module _ (m : List ℕ) (n : ℕ) {last : List ℕ} {e : ℕ} (r : RunsOf (Like 
     used i b h before =
         met-least (λ j. getD class j 0) i _ (λ j l. omega (arith, met-above (λ a. getD map a 0) 0 b (getD last j 0) (before j l), class-last j (omega arith)))
 
+    -- the classes of the bytes
     pub group-spread : Grouped (Like m n) map k byteValues
     group-spread = record {
       size = s .size;

@@ -1,5 +1,6 @@
-// From the sets of positions of an expression to a sound room image whose states are the reached sets. One file a pass: `runs` finds the
-// byte values that go together, `group` gives each its class, `masks` each class its positions, `reach` finds the reached sets row by row, `image` writes the room around them.
+// From the sets of positions of an expression to a sound room image whose states are the reached sets. One file a pass: `runs` finds
+// the stretches of byte values that go together, `group` gives each byte value its class, `masks` each class its positions, `reach` finds the reached sets row
+// by row, `image` writes the room around them.
 ghost use mathlib.Core.Path.{_≡_};
 ghost use Prim.Native.Nat.{_+_, _*_, _≤_};
 ghost use lib.Bits.{bitOr};

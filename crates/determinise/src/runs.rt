@@ -18,7 +18,8 @@ pub struct Runs {
     pub count: usize,
 }
 
-// The ends so far, and b besides where the position p + 1 holds one of b and b + 1 and not the other. After 255 it takes what follows the byte set.
+// The ends so far, and b besides where the position p + 1 holds one of b and b + 1 and not the other. What it says of 255, after which the byte set is over, no
+// one asks.
 fn note(bytes: &[u8], p: usize, ends: [u8; BYTE_SET]) -> [u8; BYTE_SET]
     requires { ⌜ p * byteSet + byteSet < length (now bytes) ⌝ }
     ensures { λ r. ⌜ Noted (now (bytes .entry)) p ends r ⌝ }

@@ -1,6 +1,5 @@
 -- The invariant: the bytes of the runs below i, those below `from`, have their classes (`Spreading`).
 use Prim.Native.Nat.{_≤_, _-_}
-use mathlib.Core.Path.{_≡_}
 use native.Mathlib.Omega.{arith}
 use borrow.Author.Needs.{needs}
 use Rattle.determinise.proofs.Spreading.{Spreading, spreading-none, spreading-fits, spreading-more, spreading-all}

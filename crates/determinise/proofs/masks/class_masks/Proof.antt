@@ -1,6 +1,5 @@
 -- The invariant: the classes of the runs below i have their masks, and n is the next class (`Masking`).
 use Prim.Native.Nat.{ℕ, _*_, _-_, _≤_}
-use mathlib.Core.Path.{_≡_}
 use mathlib.Core.Logic.{⊎-elim}
 use native.Mathlib.Omega.{arith}
 use borrow.Author.Needs.{needs}
