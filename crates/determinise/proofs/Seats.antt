@@ -1,5 +1,5 @@
 -- The seat of a set among the reached ones.
---   seated-none: where nothing is stored; seated-new: where a new set is
+--   seated-guess: where it was guessed; seated-none: where nothing is stored; seated-new: where a new set is
 use Prim.Native.Nat.{ℕ, _+_, _≤_, _<_}
 use mathlib.Core.Path.{_≡_}
 use mathlib.Core.List.{List}
@@ -8,9 +8,13 @@ use native.Mathlib.Omega.{arith}
 use Rattle.scope.specs.Limits.{stateLimit}
 use Rattle.scope.proofs.Tests.{split}
 use Rattle.sets.specs.Value.{Put}
-use Rattle.determinise.specs.Layout.{setsAt}
+use Rattle.determinise.specs.Layout.{setsAt, setOf}
 use Rattle.determinise.specs.Reach.{Found, Seated}
 use Rattle.determinise.proofs.Kept.{kept-none, kept-wide, put-kept}
+
+-- a set that was guessed
+pub seated-guess : (w : List ℕ) (n s r : ℕ) → (r < n) × (setOf w r ≡ s) → Seated w w n s r
+seated-guess w n s r g = record { most = omega (arith, g .0); here = λ h. g .1; new = λ e. absurd (omega (arith, g .0)); kept = kept-none w _ _ }
 
 -- a set that is there, or has no room
 pub seated-none : (w : List ℕ) (n s r : ℕ) → Found w n s r → (r ≡ n → stateLimit ≤ n) → Seated w w n s r

@@ -6,6 +6,7 @@
 --   MasksOf e k mask: each of the k masks is that of some byte
 --   cellAt o i: the cell number i of an image, by rows
 --   Rows e k mask set cell n filled: n different reached sets, {0} first, and the cells below `filled` lead where they should
+--   guessCount: how many numbers of sets are kept to be tried first
 --   Found w n s r: r is the number of the set s among n, n if it has none
 --   Seated w w′ n s r: the same, and a set that is new is stored where there is room
 --   Fits o w m k q n: the buffers are long enough for the row q of k classes where n sets are reached
@@ -52,6 +53,9 @@ pub record Rows (e : Re) (k : ℕ) (mask set cell : ℕ → ℕ) (n filled : ℕ
   pub within : filled ≤ n * k
   pub below : (i : ℕ) → i < filled → cell i < n
   pub leads : (q c : ℕ) → c < k → q * k + c < filled → set (cell (q * k + c)) ≡ bitAnd (follows e (set q)) (mask c)
+
+abbrev pub guessCount : ℕ
+guessCount = 251
 
 pub record Found (w : List ℕ) (n s r : ℕ) : Type 0 where
   pub most : r ≤ n

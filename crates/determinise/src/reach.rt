@@ -1,13 +1,14 @@
 // The reached sets in the order of their arrival, and the cells of the image row by row. A row is one union of follow sets, and for each class what it has in
 // common with the class's mask; a set that is not yet among the reached ones is stored after them.
 ghost use mathlib.Core.Path.{_≡_};
+ghost use mathlib.Core.Bool.{true};
 ghost use Prim.Native.Nat.{_+_, _*_, _<_, _≤_};
 ghost use lib.ListN.{length};
 ghost use Rattle.scope.specs.Limits.{stateLimit, setWords};
 ghost use Rattle.scope.specs.Bits.{joined};
 ghost use Rattle.sets.specs.Value.{setBits, value};
 ghost use Rattle.determinise.specs.Layout.{setsAt, setOf};
-ghost use Rattle.determinise.specs.Reach.{followOf, WordAnswer, Found, Seated, Fits, RowAnswer, RowsAnswer};
+ghost use Rattle.determinise.specs.Reach.{followOf, WordAnswer, guessCount, Found, Seated, Fits, RowAnswer, RowsAnswer};
 use crate::Counted;
 use crate::SETS_AT;
 use scope::Machine;
@@ -59,12 +60,41 @@ fn find(words: &[u64], n: usize, s: Set) -> usize
     n
 }
 
-// The number of s among the n reached sets. Where it is new and there is room, it is stored after them.
-fn seat(words: &mut [u64], n: usize, s: Set) -> usize
-    requires { ⌜ (n ≤ stateLimit) × ((setsAt + stateLimit) * setWords ≤ length (now words)) ⌝ }
-    ensures { λ r. ⌜ Seated (now (words .entry)) (now (words .exit)) n (value (s .words)) r ⌝ }
+// How many guesses are kept: for each remainder of a set, the number that a set with it had last.
+const GUESSES: usize = 251;
+
+// The remainder of a set, by its first word.
+fn remainder(s: Set) -> usize
+    ensures { λ r. ⌜ r < guessCount ⌝ }
 {
+    (s.words[0] % GUESSES as u64) as usize
+}
+
+// Whether the number i among the n reached sets is that of s.
+fn is_at(words: &[u64], n: usize, i: usize, s: Set) -> bool
+    requires { ⌜ (n ≤ stateLimit) × ((setsAt + stateLimit) * setWords ≤ length (now words)) ⌝ }
+    ensures { λ r. ⌜ (r ≡ true → (i < n) × (setOf (now (words .entry)) i ≡ value (s .words))) ⌝ }
+{
+    if i < n {
+        return s.same(sets::load(words, SETS_AT + i));
+    }
+    false
+}
+
+// The number of s among the n reached sets: the one that is guessed, if it is that, or else the first that is found. Where it is new and there is room, it is stored
+// after them.
+fn seat(words: &mut [u64], guesses: &mut [u8], n: usize, s: Set) -> usize
+    requires { ⌜ (n ≤ stateLimit) × ((setsAt + stateLimit) * setWords ≤ length (now words)) × (length (now guesses) ≡ guessCount) ⌝ }
+    ensures { λ r. ⌜ Seated (now (words .entry)) (now (words .exit)) n (value (s .words)) r ⌝ }
+    ensures { λ r. ⌜ length (now (guesses .exit)) ≡ guessCount ⌝ }
+{
+    let at = remainder(s);
+    let guess = guesses[at] as usize;
+    if is_at(words, n, guess, s) {
+        return guess;
+    }
     let i = find(words, n, s);
+    guesses[at] = i as u8;
     if i == n {
         if n < Machine::STATES {
             sets::store(words, SETS_AT + n, s);
@@ -77,20 +107,22 @@ fn seat(words: &mut [u64], n: usize, s: Set) -> usize
 fn row(
     image: &mut [u8],
     words: &mut [u64],
+    guesses: &mut [u8],
     masks: &[u64],
     k: usize,
     q: usize,
     n: usize,
     union: Set,
 ) -> Counted
-    requires { ⌜ Fits (now image) (now words) (now masks) k q n ⌝ }
+    requires { ⌜ Fits (now image) (now words) (now masks) k q n × (length (now guesses) ≡ guessCount) ⌝ }
+    ensures { λ r. ⌜ length (now (guesses .exit)) ≡ guessCount ⌝ }
     ensures { λ r. ⌜ RowAnswer (now (image .entry)) (now (words .entry)) (now (masks .entry)) k q n (value (union .words)) (now (image .exit)) (now (words .exit)) r ⌝ }
 {
     let at = Machine::CELLS_AT + q * k;
     let mut m = n;
     let mut c: usize = 0;
     while c < k {
-        let i = seat(words, m, union.common(sets::load(masks, c)));
+        let i = seat(words, guesses, m, union.common(sets::load(masks, c)));
         if i == Machine::STATES {
             return Counted::Many;
         }
@@ -109,11 +141,12 @@ pub fn rows(image: &mut [u8], words: &mut [u64], masks: &[u64], k: usize) -> Cou
     requires { ⌜ setOf (now words) 0 ≡ 1 ⌝ }
     ensures { λ r. ⌜ RowsAnswer (now (image .entry)) (now (words .entry)) (now (masks .entry)) k (now (image .exit)) (now (words .exit)) r ⌝ }
 {
+    let mut guesses = [0u8; GUESSES];
     let mut n: usize = 1;
     let mut q: usize = 0;
     while q < n {
         let union = follows(words, sets::load(words, SETS_AT + q));
-        let counted = row(image, words, masks, k, q, n, union);
+        let counted = row(image, words, &mut guesses, masks, k, q, n, union);
         match counted {
             Counted::Few(m) => {
                 n = m;

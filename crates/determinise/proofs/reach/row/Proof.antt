@@ -1,42 +1,46 @@
 -- The invariant: the first c cells of the row lead to the sets that they should, all of them among the m reached ones (`Filling`).
 use Prim.Native.Nat.{_-_}
+use mathlib.Core.Path.{_≡_}
 use mathlib.Core.Logic.{⊎-elim}
 use native.Mathlib.Omega.{arith}
 use borrow.Author.Needs.{needs}
+use lib.ListN.{length}
 use Rattle.sets.specs.Value.{value}
+use Rattle.determinise.specs.Reach.{guessCount}
 use Rattle.determinise.proofs.Rows.{row-fits, Filling, filling-none, filling-full, filling-old, filling-new, filling-end}
 use Rattle.determinise.proofs.reach.row.Statement.{statement}
 use Rattle.determinise.proofs.reach.row.Tie as tie
 
 abbrev Inv-loop : tie.InvT-loop
-Inv-loop image₀ words₀ masks k q n union at m₀ c₀ image words m c = Filling image₀ words₀ masks k q n (value (union .words)) image words m c
+Inv-loop image₀ words₀ guesses₀ masks k q n union at m₀ c₀ image words guesses m c =
+    Filling image₀ words₀ masks k q n (value (union .words)) image words m c × (length guesses ≡ guessCount)
 
 abbrev μ-loop : tie.MeasureT-loop
-μ-loop image₀ words₀ masks k q n union at m₀ c₀ image words m c = k - c
+μ-loop image₀ words₀ guesses₀ masks k q n union at m₀ c₀ image words guesses m c = k - c
 
 mul-at : tie.Need-mul-at Inv-loop μ-loop
-mul-at c = omega (arith, row-fits (c .before .before .before .args .k) (c .before .before .before .args .q) (c .before .before .before .pre .classes) (omega arith))
+mul-at c = let a = c .before .before .before .before in omega (arith, row-fits (a .args .k) (a .args .q) (a .pre .0 .classes) (omega (arith, a .pre .0 .row, a .pre .0 .states)))
 
 add-at : tie.Need-add-at Inv-loop μ-loop
-add-at c = omega (arith, row-fits (c .before .before .before .args .k) (c .before .before .before .args .q) (c .before .before .before .pre .classes) (omega arith))
+add-at c = let a = c .before .before .before .before in omega (arith, row-fits (a .args .k) (a .args .q) (a .pre .0 .classes) (omega (arith, a .pre .0 .row, a .pre .0 .states)))
 
 loop-holds : tie.Need-loop-holds Inv-loop μ-loop
-loop-holds c = search (needs, filling-none)
+loop-holds c = (filling-none _ _ _ _ _ _ _ (c .before .before .before .before .pre .0 .states), c .before .before .before .before .pre .1)
 
 returns : tie.Need-returns Inv-loop μ-loop
-returns c = search (needs, filling-full)
+returns c = (c .before .before .before .before .before .seat .ensures .1, search (needs, filling-full))
 
 add-image : tie.Need-add-image Inv-loop μ-loop
-add-image c = let a = c .before .before .before .before .before .before .before .before .before .before .before .before .before in omega (arith, row-fits (a .args .k) (a .args .q) (a .pre .classes) (omega arith))
+add-image c = let a = c .before .before .before .before .before .before .before .before .before .before .before .before .before .before .before .before .before in omega (arith, row-fits (a .args .k) (a .args .q) (a .pre .0 .classes) (omega (arith, a .pre .0 .row, a .pre .0 .states)))
 
 slice-write-image : tie.Need-slice-write-image Inv-loop μ-loop
-slice-write-image c = let a = c .before .before .before .before .before .before .before .before .before .before .before .before .before in omega (arith, row-fits (a .args .k) (a .args .q) (a .pre .classes) (omega arith))
+slice-write-image c = let a = c .before .before .before .before .before .before .before .before .before .before .before .before .before .before .before .before .before in omega (arith, row-fits (a .args .k) (a .args .q) (a .pre .0 .classes) (omega (arith, a .pre .0 .row, a .pre .0 .states)))
 
 loop-again : tie.Need-loop-again Inv-loop μ-loop
-loop-again c = ⊎-elim (λ v. rw (v .1) (search (needs, filling-new))) (λ v. rw (v .1) (search (needs, filling-old))) (c .if2 .came)
+loop-again c = (⊎-elim (λ v. rw (v .1) (search (needs, filling-new))) (λ v. rw (v .1) (search (needs, filling-old))) (c .if2 .came), c .before .before .before .before .before .before .seat .ensures .1)
 
 returns-2 : tie.Need-returns-2 Inv-loop μ-loop
-returns-2 c = search (needs, filling-end)
+returns-2 c = (c .before .loop .inv .1, search (needs, filling-end))
 
 pub row-spec : {M : Type 1} → statement M
 row-spec =
@@ -52,6 +56,7 @@ row-spec =
     (λ c κs. search needs)
     (λ c. search needs)
     (λ c. search needs)
+    (λ c. search needs)
     returns
     (λ c. search needs)
     (λ c. search needs)
@@ -60,6 +65,7 @@ row-spec =
     (λ c. search needs)
     (λ c. search needs)
     loop-again
+    (λ c. search needs)
     (λ c. search needs)
     (λ c. search needs)
     returns-2)

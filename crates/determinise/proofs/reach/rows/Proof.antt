@@ -1,29 +1,32 @@
 -- The invariant: the rows below q are filled, and lead to sets among the n reached ones (`Filled`). The measure is how many rows there is room for.
 use Prim.Native.Nat.{_-_}
+use mathlib.Core.Path.{_≡_, refl}
 use borrow.Author.Needs.{needs}
+use lib.ListN.{length}
 use Rattle.scope.specs.Limits.{stateLimit}
+use Rattle.determinise.specs.Reach.{guessCount}
 use Rattle.determinise.proofs.Filled.{Filled, filled-none, filled-next, filled-many, filled-end}
 use Rattle.determinise.proofs.reach.rows.Statement.{statement}
 use Rattle.determinise.proofs.reach.rows.Tie as tie
 
 abbrev Inv-loop : tie.InvT-loop
-Inv-loop image₀ words₀ masks k n₀ q₀ image words n q = Filled image₀ words₀ masks k image words n q
+Inv-loop image₀ words₀ masks k guesses₀ n₀ q₀ image words guesses n q = Filled image₀ words₀ masks k image words n q × (length guesses ≡ guessCount)
 
 abbrev μ-loop : tie.MeasureT-loop
-μ-loop image₀ words₀ masks k n₀ q₀ image words n q = stateLimit - q
+μ-loop image₀ words₀ masks k guesses₀ n₀ q₀ image words guesses n q = stateLimit - q
 
 loop-holds : tie.Need-loop-holds Inv-loop μ-loop
-loop-holds c = search (needs, filled-none)
+loop-holds c = (search (needs, filled-none), refl)
 
 returns : tie.Need-returns Inv-loop μ-loop
-returns c = let r = c .before .before .before .before .before .before in
-    let l = r .before .before .before .before .before .before .before in
-    filled-many (l .before .before .before .before .pre .0) (l .loop .inv) (r .before .before .before .before .before .before .loop-test .taken) (r .before .before .before .before .load .ensures) (r .before .before .before .follows .ensures) (r .row .ensures) (c .enum-told .given .1)
+returns c =
+    filled-many (c .before .before .before .before .before .before .before .before .before .before .before .before .before .before .before .before .before .before .before .pre .0) (c .before .before .before .before .before .before .before .before .before .before .before .before .before .before .before .loop .inv .0) (c .before .before .before .before .before .before .before .before .before .before .before .before .before .before .loop-test .taken) (c .before .before .before .before .before .before .before .before .before .before .before .before .load .ensures) (c .before .before .before .before .before .before .before .before .before .before .before .follows .ensures) (c .before .before .before .before .before .before .before .row .ensures .1) (c .enum-told .given .1)
 
 loop-again : tie.Need-loop-again Inv-loop μ-loop
-loop-again c = let r = c .before .before .before .before .before .before .before in
-    let l = r .before .before .before .before .before .before .before in
-    filled-next (l .before .before .before .before .pre .0) (l .loop .inv) (r .before .before .before .before .before .before .loop-test .taken) (r .before .before .before .before .load .ensures) (r .before .before .before .follows .ensures) (r .row .ensures) _ (c .before .counted .given .1)
+loop-again c = (
+  filled-next (c .before .before .before .before .before .before .before .before .before .before .before .before .before .before .before .before .before .before .before .before .pre .0) (c .before .before .before .before .before .before .before .before .before .before .before .before .before .before .before .before .loop .inv .0) (c .before .before .before .before .before .before .before .before .before .before .before .before .before .before .before .loop-test .taken) (c .before .before .before .before .before .before .before .before .before .before .before .before .before .load .ensures) (c .before .before .before .before .before .before .before .before .before .before .before .before .follows .ensures) (c .before .before .before .before .before .before .before .before .row .ensures .1) _ (c .before .counted .given .1),
+  c .before .before .before .before .before .before .before .before .row .ensures .0,
+)
 
 returns-2 : tie.Need-returns-2 Inv-loop μ-loop
 returns-2 c = search (needs, filled-end)
@@ -38,6 +41,7 @@ rows-spec =
     (λ c. search needs)
     (λ c κs. search needs)
     (λ c κs. search needs)
+    (λ c. search needs)
     (λ c κs. search needs)
     (λ c. search needs)
     (λ c. search needs)
