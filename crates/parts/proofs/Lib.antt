@@ -3,6 +3,7 @@ pub mod Names
 pub mod Rooms
 pub mod ByKind
 pub mod Marks
+pub mod Signs
 pub mod Passes
 pub mod Turns
 pub mod Climbing

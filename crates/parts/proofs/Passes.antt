@@ -3,15 +3,15 @@
 --   chain-low, last-more: a state of a chain is below the next to be placed; the last stays the last while none is added
 --   Tried R old h q p: of the chain only p, and what it leads to, is still to be compared with q
 --   tried-first, tried-more, tried-less: comparing along the chain
---   place-old, place-head, place-found, place-none: the state itself, that which begins the old part, or one of the chain is the first that agrees
+--   place-old, place-head, place-still, place-found, place-none: the state itself, that which begins the old part, or one of the chain is the first that agrees
 --   Passed R old new₀ new link parent parent′ born born′ r opened q: the pass has come to the state q
 --   chain-kept, chain-opened: what that does to the links
---   passed-none, passed-old, passed-joined, passed-opened: a state begins its old part still, joins a new part, or opens one
-use Prim.Native.Nat.{ℕ, _+_, _≤_, _<_}
-use mathlib.Core.Path.{_≡_, refl, sym, _∙_}
+--   passed-none, passed-stays, passed-joined, passed-opened: a state stays in its part, joins a new one, or opens one
+use Prim.Native.Nat.{ℕ, zero, suc, _+_, _≤_, _<_}
+use mathlib.Core.Path.{_≡_, refl, sym, ap, _∙_}
 use mathlib.Core.Bool.{Bool, true, false}
 use mathlib.Core.Logic.{inl, inr}
-use mathlib.Core.List.{List}
+use mathlib.Core.List.{List, [], _∷_}
 use native.Mathlib.Omega.{arith}
 use native.Mathlib.Decide.{ℕ-discrete}
 use borrow.Author.Count.{below-more}
@@ -64,6 +64,13 @@ module _ (next : ℕ → ℕ → ℕ) (old : List ℕ) (q : ℕ) (f : First (Ali
   -- the state that begins the old part agrees
   pub place-head : R h q → First R q h
   place-head e = found h (f .low) (record { low = omega arith; like = agree-itself next old h; least = λ j k a. f .least j k (a .here ∙ f .like) }) e
+
+  -- so it is too where q begins its old part itself
+  pub place-still : (h < q → R h q) → First R q h
+  place-still e = elim (split h q) [
+    | inl l ↦ place-head (e l)
+    | inr l ↦ (let z : h ≡ q = omega (arith, f .low) in rw z (place-old l))
+  ]
 
   -- a state of the chain agrees
   pub place-found : (p : ℕ) → Within R old h q p → R p q → First R q p
@@ -166,6 +173,12 @@ module _ (R : ℕ → ℕ → Type 0) (old link : List ℕ) (q : ℕ) (c : Chain
         begun = below-more (λ (p : ℕ). (x : ℕ) × First R p x) q (c .begun) (q, f);
       }
 
+-- an element that is stored where it is
+set-itself : (l : List ℕ) (i : ℕ) → i < length l → set l i (getD l i 0) ≡ l
+set-itself [] i h = refl
+set-itself (x ∷ l) zero h = refl
+set-itself (x ∷ l) (suc i) h = ap (λ (t : List ℕ). x ∷ t) (set-itself l i (omega arith))
+
 module _ (old new : List ℕ) (q p : ℕ) where
   opens-set : (x : ℕ) → x < q → Opens old new x → Opens old (set new q p) x
   opens-set x l o = record { begins = getD-set-other new q x p 0 (λ e. omega arith) ∙ o .begins; began = o .began }
@@ -206,9 +219,12 @@ module _ (R : ℕ → ℕ → Type 0) (old new₀ new link parent parent′ born
         link-long = d .link-long;
       }
 
-  -- a state that begins its old part still
-  pub passed-old : First R q q → q ≤ getD old q 0 → getD old q 0 ≤ q → Passed R old new₀ (set new q q) link parent parent′ born born′ r opened (q + 1)
-  passed-old f l low = passed-kept q f (λ g k. omega arith) low
+  -- a state that stays in its part, where its name is there already
+  pub passed-stays : getD new₀ q 0 ≡ getD old q 0 → First R q (getD old q 0) → Passed R old new₀ new link parent parent′ born born′ r opened (q + 1)
+  passed-stays e f =
+      let here : getD new q 0 ≡ getD old q 0 = d .named .kept q (omega arith) ∙ e in
+      let same : set new q (getD old q 0) ≡ new = rw (← here) (set-itself new q (omega (arith, d .named .long))) in
+      rw same at (passed-kept (getD old q 0) f (λ g k. g .least (getD old q 0) k (f .like)) (f .low))
 
   -- a state that joins a part
   pub passed-joined : (p : ℕ) → First R q p → (p ≡ q → ⊥) → getD old q 0 ≤ q → Passed R old new₀ (set new q p) link parent parent′ born born′ r opened (q + 1)

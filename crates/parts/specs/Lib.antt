@@ -2,5 +2,6 @@
 pub mod Side
 pub mod Kinds
 pub mod Parts
+pub mod Signs
 pub mod Round
 pub mod Refined

@@ -7,7 +7,7 @@
 // beside the parent, the part of a state after any earlier round is found by climbing.
 use scope::Machine;
 ghost use mathlib.Core.Path.{_≡_};
-ghost use Prim.Native.Nat.{_+_, _*_, _≤_, _<_};
+ghost use Prim.Native.Nat.{ℕ, _+_, _*_, _%_, _^_, _≤_, _<_};
 ghost use lib.ListN.{length, getD, replicate};
 ghost use Rattle.scope.specs.Limits.{byteValues, classLimit, stateLimit};
 ghost use Rattle.scope.specs.Room.{statesOf, Below, Sound};
@@ -17,6 +17,7 @@ ghost use Rattle.slices.specs.Parts.{Decides};
 ghost use Rattle.parts.specs.Side.{both, cellIn, markIn, side, Side};
 ghost use Rattle.parts.specs.Kinds.{pairOf, stretch, Level, KindAt, Kinds, Most, Column, Used, ColumnsOf};
 ghost use Rattle.parts.specs.Parts.{First, Named, Renamed, Alike, Agree};
+ghost use Rattle.parts.specs.Signs.{signs, Targets, Steady, Stayed};
 ghost use Rattle.parts.specs.Round.{Chain, Opened, Births};
 ghost use Rattle.parts.specs.Refined.{Refined, Climbs, Climbed};
 
@@ -247,7 +248,61 @@ fn place(
     q
 }
 
-// One round, from part to next, with the births of round r; whether it opened a part.
+// How many signs there are: a state has the one that its number leaves.
+const SIGNS: usize = 64;
+
+// The sign of the state q.
+fn sign(q: usize) -> u64
+    ensures { λ r. ⌜ r ≡ 2 ^ (q % signs) ⌝ }
+{
+    1u64 << (q % SIGNS)
+}
+
+// The signs of the states to which the kinds lead q.
+fn targets(
+    a: &[u8],
+    b: &[u8],
+    left: &[u8; Machine::BYTES],
+    right: &[u8; Machine::BYTES],
+    count: usize,
+    q: usize,
+) -> u64
+    requires { ⌜ Sound (now a) × Sound (now b) ⌝ }
+    requires { ⌜ ColumnsOf (now a) (now b) (now left) (now right) count × (q < statesOf (now a) + statesOf (now b)) ⌝ }
+    ensures { λ r. ⌜ Targets ((both (now (a .entry)) (now (b .entry))) .next) q r ⌝ }
+{
+    let mut all: u64 = 0;
+    let mut i: usize = 0;
+    while i < count {
+        all = all | sign(cell(a, b, left, right, q, i));
+        i += 1;
+    }
+    all
+}
+
+// Notes the targets of the first n states.
+fn note_targets(
+    a: &[u8],
+    b: &[u8],
+    left: &[u8; Machine::BYTES],
+    right: &[u8; Machine::BYTES],
+    count: usize,
+    n: usize,
+    to: &mut [u64; STATES],
+)
+    requires { ⌜ Side (now a) (now b) n × ColumnsOf (now a) (now b) (now left) (now right) count × (length (now to) ≡ stateLimit + stateLimit) ⌝ }
+    ensures { λ _. ⌜ ((q : ℕ) → q < n → Targets ((both (now (a .entry)) (now (b .entry))) .next) q (getD (now (to .exit)) q 0)) ⌝ }
+{
+    let mut q: usize = 0;
+    while q < n {
+        to[q] = targets(a, b, left, right, count, q);
+        q += 1;
+    }
+}
+
+// One round, from part to next, which is the same before, with the births of round r; whether it opened a part. `moved` has the signs of the states whose part was
+// another before the last round, and then of those whose part is another now. A state agrees still with the one that begins its part where nothing that either leads
+// to has moved.
 fn round(
     a: &[u8],
     b: &[u8],
@@ -255,6 +310,8 @@ fn round(
     right: &[u8; Machine::BYTES],
     count: usize,
     part: &[u16; STATES],
+    to: &[u64; STATES],
+    moved: &mut u64,
     next: &mut [u16; STATES],
     parent: &mut [u16; STATES],
     born: &mut [u16; STATES],
@@ -265,40 +322,50 @@ fn round(
     requires { ⌜ ColumnsOf (now a) (now b) (now left) (now right) count ⌝ }
     requires { ⌜ Named (Alike (now part)) (now part) n ⌝ }
     requires { ⌜ (length (now next) ≡ stateLimit + stateLimit) × (length (now parent) ≡ stateLimit + stateLimit) × (length (now born) ≡ stateLimit + stateLimit) ⌝ }
+    requires { ⌜ ((q : ℕ) → q < n → Targets ((both (now a) (now b)) .next) q (getD (now to) q 0)) × Steady ((both (now a) (now b)) .next) (now part) n (now moved) ⌝ }
+    requires { ⌜ ((q : ℕ) → q < n → getD (now next) q 0 ≡ getD (now part) q 0) ⌝ }
     ensures { λ z. ⌜ Renamed (Agree ((both (now (a .entry)) (now (b .entry))) .next) (now (part .entry))) (now (next .entry)) (now (next .exit)) n ⌝ }
     ensures { λ z. ⌜ Births (now (part .entry)) (now (next .exit)) (now (parent .entry)) (now (parent .exit)) (now (born .entry)) (now (born .exit)) r n ⌝ }
+    ensures { λ z. ⌜ Stayed (now (part .entry)) (now (next .exit)) n (now (moved .exit)) ⌝ }
     ensures { λ z. ⌜ Decides z (Opened (now (part .entry)) (now (next .exit)) n) ⌝ }
 {
+    let before = *moved;
     let mut link = [0u16; STATES];
     let mut opened = false;
+    let mut stirred: u64 = 0;
     let mut q: usize = 0;
     while q < n {
         let h = part[q] as usize;
-        let mut p = q;
-        if h < q {
-            p = place(a, b, left, right, count, part, &link, q);
-            if p == q {
-                link[q] = link[h];
-                link[h] = q as u16;
-                parent[q] = h as u16;
-                born[q] = r;
-                opened = true;
+        if (to[q] | to[h]) & before != 0 {
+            if h < q {
+                let p = place(a, b, left, right, count, part, &link, q);
+                if p != h {
+                    next[q] = p as u16;
+                    stirred = stirred | sign(q);
+                    if p == q {
+                        link[q] = link[h];
+                        link[h] = q as u16;
+                        parent[q] = h as u16;
+                        born[q] = r;
+                        opened = true;
+                    }
+                }
             }
         }
-        next[q] = p as u16;
         q += 1;
     }
+    *moved = stirred;
     opened
 }
 
 // Copies the parts of the first n states.
-fn adopt(next: &[u16; STATES], part: &mut [u16; STATES], n: usize)
+fn adopt(from: &[u16; STATES], part: &mut [u16; STATES], n: usize)
     requires { ⌜ (n ≤ stateLimit + stateLimit) × (length (now part) ≡ stateLimit + stateLimit) ⌝ }
-    ensures { λ _. ⌜ Written n (λ q. getD (now (next .entry)) q 0) (now (part .entry)) (now (part .exit)) ⌝ }
+    ensures { λ _. ⌜ Written n (λ q. getD (now (from .entry)) q 0) (now (part .entry)) (now (part .exit)) ⌝ }
 {
     let mut q: usize = 0;
     while q < n {
-        part[q] = next[q];
+        part[q] = from[q];
         q += 1;
     }
 }
@@ -323,7 +390,11 @@ pub fn refine(
     ensures { λ r. ⌜ (length (now (part .exit)) ≡ stateLimit + stateLimit) × (length (now (parent .exit)) ≡ stateLimit + stateLimit) × (length (now (born .exit)) ≡ stateLimit + stateLimit) ⌝ }
 {
     begin(a, b, n, part);
+    let mut to = [0u64; STATES];
+    note_targets(a, b, left, right, count, n, &mut to);
+    let mut moved: u64 = u64::MAX;
     let mut next = [0u16; STATES];
+    adopt(part, &mut next, n);
     let mut r: usize = 0;
     while round(
         a,
@@ -332,6 +403,8 @@ pub fn refine(
         right,
         count,
         part,
+        &to,
+        &mut moved,
         &mut next,
         parent,
         born,

@@ -10,10 +10,10 @@ use Rattle.parts.proofs.adopt.Statement.{statement}
 use Rattle.parts.proofs.adopt.Tie as tie
 
 abbrev Inv-loop : tie.InvT-loop
-Inv-loop next part₀ n q₀ part q = (q ≤ n) × Stored part₀ part 0 q (λ p. getD next p 0)
+Inv-loop from part₀ n q₀ part q = (q ≤ n) × Stored part₀ part 0 q (λ p. getD from p 0)
 
 abbrev μ-loop : tie.MeasureT-loop
-μ-loop next part₀ n q₀ part q = n - q
+μ-loop from part₀ n q₀ part q = n - q
 
 loop-holds : tie.Need-loop-holds Inv-loop μ-loop
 loop-holds c = (search needs, stored-none _ _ _)
