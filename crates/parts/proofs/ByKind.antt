@@ -8,7 +8,7 @@
 --   columns-of, least-bytes: the classes of the least bytes are the columns; these are bytes
 --   Cell m q c, left-cell, right-cell: the cell of a state and a kind lies in the room, and is a state
 --   Led, led-more, led-all, led-apart: two states agree exactly if each kind leads them into one part
---   kind-next, kind-left, kind-before: a byte leads where the least byte of its kind does; a byte below it is of a smaller kind
+--   kind-next, kind-before: a byte leads where the least byte of its kind does; a byte below it is of a smaller kind
 use Prim.Native.Nat.{ℕ, zero, suc, _+_, _-_, _*_, _≤_, _<_}
 use mathlib.Core.Path.{_≡_, refl, sym, _∙_}
 use mathlib.Core.Bool.{Bool, true, false}
@@ -18,7 +18,7 @@ use native.Mathlib.Omega.{arith}
 use native.Mathlib.Decide.{ℕ-discrete}
 use borrow.Author.Count.{below-more}
 use lib.Seq.{getD-set-same, getD-set-other}
-use lib.ListN.{length, getD, set, replicate, length-set}
+use lib.ListN.{getD, set, replicate, length-set}
 use Rattle.scope.specs.Limits.{byteValues, classLimit, classesAt, cellsAt, roomBytes}
 use Rattle.scope.specs.Room.{statesOf, classesOf, classOf, cellOf, nextOf, Below, Sound}
 use Rattle.scope.proofs.Room.{cell-used, cells-fit}
@@ -325,11 +325,6 @@ module _ (a b kind least : List ℕ) (count : ℕ) (k : KindsOf a b kind least c
   pub kind-next : (q : ℕ) → (both a b) .next q (getD least (getD kind x 0) 0) ≡ (both a b) .next q x
   unfolding nextOf
   kind-next q = rw (k .left x h, k .right x h) refl
-
-  -- and so in the room a alone
-  pub kind-left : (q : ℕ) → nextOf a q (getD least (getD kind x 0) 0) ≡ nextOf a q x
-  unfolding nextOf
-  kind-left q = rw (k .left x h) refl
 
 -- a byte below the least byte of a kind is of a smaller kind
 pub kind-before : {a b kind least : List ℕ} {count : ℕ} → KindsOf a b kind least count → (x i : ℕ) → i < count → x < getD least i 0 → getD kind x 0 < i

@@ -2,7 +2,7 @@
 -- the laws on `Refined` speak of that machine. To minimise, it is made of the states of one room, which runs alone as it does beside another.
 --   refined-together: in the end two states are in one part exactly if they are together after the last round
 --   climbs, climbed-together: two states climb to one part exactly if they are together after that round
---   both-rounds, both-few: two rooms: the number of rounds is that of both machines together, and at most s + t - 2
+--   both-few: two rooms: there are at most s + t - 2 rounds
 --   left-parts: one room: its parts are the states that no string tells apart
 use Prim.Native.Nat.{ℕ, _+_, _≤_, _<_}
 use mathlib.Core.Path.{_≡_, refl, sym, _∙_}
@@ -12,7 +12,7 @@ use native.Mathlib.Omega.{arith}
 use lib.ListN.{getD}
 use Rattle.scope.specs.Machine.{Machine, Same}
 use Rattle.scope.specs.Room.{statesOf, machine, Sound}
-use Rattle.scope.specs.Rounds.{aside, Together, Rounds}
+use Rattle.scope.specs.Rounds.{Together}
 use Rattle.scope.proofs.Rounds.{together-in, together-flip, together-chain, rests-same}
 use Rattle.scope.proofs.Run.{sound-closed}
 use Rattle.scope.proofs.Aside.{left-run, rounds-two}
@@ -51,11 +51,7 @@ module _ (M : Machine) (part parent born : List ℕ) (k : ℕ) (d : Refined M pa
       }
 
 module _ (a b part parent born : List ℕ) (rounds : ℕ) (s : Sound a) (t : Sound b) where
-  -- two rooms: the number of rounds is that of both machines together
-  pub both-rounds : Refined (side a b (statesOf a + statesOf b)) part parent born rounds → Rounds (aside (machine a) (machine b)) rounds
-  both-rounds d = d .last
-
-  -- and at most s + t - 2
+  -- two rooms: there are at most s + t - 2 rounds
   pub both-few : Refined (side a b (statesOf a + statesOf b)) part parent born rounds → rounds + 2 ≤ statesOf a + statesOf b
   both-few d = rounds-two (machine a) (machine b) (sound-closed a s) (sound-closed b t) rounds (d .last)
 

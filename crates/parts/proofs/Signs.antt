@@ -7,7 +7,7 @@
 --   stayed-none, stayed-still, stayed-moved: the signs of a round, state by state
 use Prim.Native.Nat.{ℕ, _+_, _%_, _^_, _<_}
 use mathlib.Core.Path.{_≡_, refl, sym, ap, _∙_}
-use mathlib.Core.Bool.{Bool, true, false, _&&_, _||_, false≢true, true≢false}
+use mathlib.Core.Bool.{Bool, true, false, _&&_, _||_, true≢false}
 use mathlib.Core.Logic.{inl, inr}
 use mathlib.Core.List.{List}
 use native.Mathlib.Nat.{mod-lt}
@@ -19,7 +19,6 @@ use lib.Dec.{lit<}
 use lib.ListN.{length, getD, set}
 use lib.Seq.{getD-set-same, getD-set-other}
 use Rattle.scope.specs.Bits.{has}
-use Rattle.scope.specs.Limits.{byteValues}
 use Rattle.scope.specs.Machine.{Machine, Closed}
 use Rattle.scope.specs.Buffers.{Written}
 use Rattle.scope.proofs.Bits.{has-or, has-pow, has-zero}

@@ -7,9 +7,9 @@
 // beside the parent, the part of a state after any earlier round is found by climbing.
 use scope::Machine;
 ghost use mathlib.Core.Path.{_≡_};
-ghost use Prim.Native.Nat.{ℕ, _+_, _*_, _%_, _^_, _≤_, _<_};
+ghost use Prim.Native.Nat.{ℕ, _+_, _%_, _^_, _≤_, _<_};
 ghost use lib.ListN.{length, getD, replicate};
-ghost use Rattle.scope.specs.Limits.{byteValues, classLimit, stateLimit};
+ghost use Rattle.scope.specs.Limits.{byteValues, stateLimit};
 ghost use Rattle.scope.specs.Room.{statesOf, Below, Sound};
 ghost use Rattle.scope.specs.Rounds.{Together};
 ghost use Rattle.scope.specs.Buffers.{Written};
@@ -48,7 +48,7 @@ pub struct ByteKinds {
 fn pair(a: &[u8], b: &[u8], x: usize) -> usize
     requires { ⌜ Sound (now a) × Sound (now b) ⌝ }
     requires { ⌜ x < byteValues ⌝ }
-    ensures { λ r. ⌜ (r ≡ pairOf (now (a .entry)) (now (b .entry)) x) × (r < classLimit * classLimit) ⌝ }
+    ensures { λ r. ⌜ r ≡ pairOf (now (a .entry)) (now (b .entry)) x ⌝ }
 {
     a[Machine::CLASSES_AT + x] as usize * Machine::CLASSES + b[Machine::CLASSES_AT + x] as usize
 }

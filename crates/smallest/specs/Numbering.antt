@@ -18,7 +18,7 @@ use lib.Dec.{eqb}
 use lib.ListN.{length, getD, replicate}
 use Rattle.scope.specs.Limits.{byteValues, stateLimit}
 use Rattle.scope.specs.Machine.{Machine, Same, Equal, Closed, Reached}
-use Rattle.scope.specs.Room.{statesOf, classesOf, classOf, markOf, cellOf, nextOf, machine, Below, Sound}
+use Rattle.scope.specs.Room.{statesOf, classesOf, markOf, cellOf, nextOf, machine, Below, Sound}
 use Rattle.scope.specs.Canonical.{Arrival, entry}
 use Rattle.scope.specs.Buffers.{Written}
 use Rattle.parts.specs.Refined.{PartsOf}

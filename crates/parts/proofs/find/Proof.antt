@@ -28,10 +28,10 @@ pair-requires : tie.Need-pair-requires Inv-loop μ-loop
 pair-requires c κs = (c .before .before .before .before .before .pre .0, c .before .before .before .before .before .pre .1 .1 (c .before .before .loop .i) (c .before .loop-test .taken) (omega arith))
 
 returns : tie.Need-returns Inv-loop μ-loop
-returns c = record { few = search needs; here = λ h. sym (c .before .pair .ensures .0) ∙ c .if1 .taken; none = λ e. absurd (omega (arith, c .before .before .before .loop-test .taken)) }
+returns c = record { few = search needs; here = λ h. sym (c .before .pair .ensures) ∙ c .if1 .taken; none = λ e. absurd (omega (arith, c .before .before .before .loop-test .taken)) }
 
 loop-again : tie.Need-loop-again Inv-loop μ-loop
-loop-again c = (search needs, below-more _ _ (c .before .before .before .before .loop .inv .1) (λ e. c .if1 .left (c .before .pair .ensures .0 ∙ e)))
+loop-again c = (search needs, below-more _ _ (c .before .before .before .before .loop .inv .1) (λ e. c .if1 .left (c .before .pair .ensures ∙ e)))
 
 returns-2 : tie.Need-returns-2 Inv-loop μ-loop
 returns-2 c = record { few = search needs; here = λ h. absurd (omega arith); none = λ e j h. c .before .loop .inv .1 j (omega arith) }

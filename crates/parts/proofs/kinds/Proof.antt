@@ -15,7 +15,7 @@ abbrev μ-loop : tie.MeasureT-loop
 μ-loop a b most least₀ count₀ last₀ x₀ least count last x = 256 - x
 
 loop-holds : tie.Need-loop-holds Inv-loop μ-loop
-loop-holds c = (search needs, search needs, passed-first _ _ _ (c .pair .ensures .0))
+loop-holds c = (search needs, search needs, passed-first _ _ _ (c .pair .ensures))
 
 is-level-requires : tie.Need-is-level-requires Inv-loop μ-loop
 is-level-requires c κs = (c .before .before .before .before .before .before .before .pre .0 .0, c .before .before .before .loop .inv .0, omega (arith, c .if2 .taken, c .before .before .loop-test .taken))
@@ -48,7 +48,7 @@ loop-again-2 c =
     let t = c .before .before .before .before .before .before .before .before .before .pre .0 .1 in
     let l = c .before .before .before .before .loop-test .taken in
     let g = c .before .before .before .before .before .loop .inv .2 in
-    let e = c .before .pair2 .ensures .0 in (
+    let e = c .before .pair2 .ensures in (
       search needs,
       search needs,
       ⊎-elim

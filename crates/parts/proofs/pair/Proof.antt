@@ -1,5 +1,4 @@
--- A class is below 64, so two of them are one number below 4,096.
-use mathlib.Core.Path.{refl}
+-- A class is below 64, so two of them make one number.
 use Prim.Native.Nat.{_+_}
 use native.Mathlib.Omega.{arith}
 use borrow.Author.Needs.{needs}
@@ -31,8 +30,5 @@ cast-result-2 c = omega (arith, c .shared-slice-known2 .given (2 + c .before .be
 add-result-3 : tie.Need-add-result-3
 add-result-3 c = let d = c .before .before in omega (arith, class-small _ (d .args .x) (d .pre .0 .0) (d .pre .1), class-small _ (d .args .x) (d .pre .0 .1) (d .pre .1))
 
-returns : tie.Need-returns
-returns c = let d = c .before .before in (refl, omega (arith, class-small _ (d .args .x) (d .pre .0 .0) (d .pre .1), class-small _ (d .args .x) (d .pre .0 .1) (d .pre .1)))
-
 pub pair-spec : {M : Type 1} → statement M
-pair-spec = tie.close (tie.spec add-result shared-slice-read-result cast-result mul-result add-result-2 shared-slice-read-result-2 cast-result-2 add-result-3 returns)
+pair-spec = tie.close (tie.spec add-result shared-slice-read-result cast-result mul-result add-result-2 shared-slice-read-result-2 cast-result-2 add-result-3 (λ c. search needs))
