@@ -3,8 +3,9 @@
 // Two rooms stand side by side, the states of b after those of a. Round 0 parts the states by their mark; each next round splits what some byte
 // leads into different parts; the first round that opens no part is the last. A part is named by its least state: so a state that begins a part
 // begins one in every later round, and a part that is opened has one parent, the part that its least state lay in before. In a round a state is
-// compared only with the states that begin new parts within its old one, and only over the least byte of each kind. With the round of birth kept
-// beside the parent, the part of a state after any earlier round is found by climbing.
+// compared only where something has moved that it or the beginning of its part leads to, only with the states that begin new parts within its old
+// one, and only over the least byte of each kind. With the round of birth kept beside the parent, the part of a state after any earlier round is
+// found by climbing.
 use scope::Machine;
 ghost use mathlib.Core.Path.{_≡_};
 ghost use Prim.Native.Nat.{ℕ, _+_, _%_, _^_, _≤_, _<_};
