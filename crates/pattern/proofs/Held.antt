@@ -1,13 +1,13 @@
 -- Byte sets marked bit by bit and item by item. What is held now, with what is left to mark, is always what was held at first, with all that is to be marked.
 --   Left k s r m m′: of the bytes s, which are to come into the set number k, the bytes r are left
 --   left-all, left-more, left-none: nothing is marked yet; some more is; nothing is left
---   mark-bit: one bit was stored
---   between-more, between-none, between-one: the bytes from b on; none; one
+--   mark-bit, mark-eight: one bit was stored, or all of one byte
+--   between-more, between-eight, between-none, between-one: the bytes from b on; none; one
 --   marked-as: the same bytes under another name
 --   kept-more: a buffer whose tail stays
 use Prim.Native.Nat.{ℕ, _+_, _*_, _/_, _%_, _^_, _<_, _≤_}
 use mathlib.Core.Path.{_≡_, refl, sym, ap, ap₂, _∙_}
-use mathlib.Core.Bool.{Bool, false, _&&_, _||_, and-false, or-false, or-assoc, and-or-distrib-left}
+use mathlib.Core.Bool.{Bool, true, false, _&&_, _||_, and-false, or-false, or-true, or-assoc, and-or-distrib-left}
 use mathlib.Core.List.{List}
 use mathlib.Core.Logic.{_⊎_, inl, inr}
 use native.Mathlib.Decide.{ℕ-discrete}
@@ -22,7 +22,7 @@ use Rattle.scope.specs.Buffers.{TailKept}
 use Rattle.scope.specs.Bytes.{ByteSet, between}
 use Rattle.scope.specs.Limits.{byteValues, positionLimit}
 use Rattle.scope.proofs.Bits.{has-or, has-pow}
-use Rattle.scope.proofs.Tests.{split}
+use Rattle.scope.proofs.Tests.{split, all-is}
 use Rattle.scope.proofs.Buffers.{all-kept}
 use Rattle.pattern.specs.Held.{byteSet, byteSets, held, Marked}
 
@@ -93,7 +93,51 @@ mark-bit k b v m h l hb ev = rw ev (record {
         ∙ ap₂ (λ (x : ℕ) (y : Bool). has (getD m x 0) (n % 8) || y) (sym e) (has-pow (b % 8) (n % 8) ∙ meets q k b n hn hb e)
     at q n hn (no ne) = ap (λ (x : ℕ). has x (n % 8)) (getD-set-other m (k * 32 + b / 8) (q * 32 + n / 8) _ 0 ne) ∙ sym (or-false _) ∙ ap (λ (y : Bool). has (getD m (q * 32 + n / 8) 0) (n % 8) || y) (sym (misses q k b n ne))
 
+-- ---- eight bits
+
+has-full : (j : ℕ) → j < 8 → has 255 j ≡ true
+has-full j h = all-is (has 255) 8 .sound refl j h
+
+-- all bits of the byte that has the bit b were stored
+pub mark-eight : (k b : ℕ) (m : List ℕ) → k < positionLimit → byteSets ≤ length m → b < 256 → Marked k (λ n. eqb (n / 8) (b / 8)) m (set m (k * byteSet + b / 8) 255)
+unfolding held
+mark-eight k b m h l hb = record {
+  kept = record { size = simp length-set; outside = λ i z. getD-set-other m (k * 32 + b / 8) i _ 0 (λ e. omega arith) };
+  bits = λ q n hn. at q n hn (ℕ-discrete (q * 32 + n / 8) (k * 32 + b / 8));
+}
+  where
+    at : (q n : ℕ) → n < 256 → Dec (q * 32 + n / 8 ≡ k * 32 + b / 8)
+        → has (getD (set m (k * 32 + b / 8) 255) (q * 32 + n / 8) 0) (n % 8) ≡ (has (getD m (q * 32 + n / 8) 0) (n % 8) || (eqb q k && eqb (n / 8) (b / 8)))
+    at q n hn (yes e) =
+        let y : q ≡ k = omega arith in
+        let z : n / 8 ≡ b / 8 = omega arith in
+        ap (λ (i : ℕ). has (getD (set m (k * 32 + b / 8) 255) i 0) (n % 8)) e
+        ∙ ap (λ (x : ℕ). has x (n % 8)) (getD-set-same m (k * 32 + b / 8) 255 0 (omega arith))
+        ∙ has-full (n % 8) (omega arith)
+        ∙ sym (rw (eq-eqb q k y, eq-eqb (n / 8) (b / 8) z) (or-true (has (getD m (q * 32 + n / 8) 0) (n % 8))))
+    at q n hn (no ne) =
+        ap (λ (x : ℕ). has x (n % 8)) (getD-set-other m (k * 32 + b / 8) (q * 32 + n / 8) 255 0 ne)
+        ∙ sym (or-false _)
+        ∙ ap (λ (y : Bool). has (getD m (q * 32 + n / 8) 0) (n % 8) || y) (sym (apart (ℕ-discrete q k)))
+      where
+        apart : Dec (q ≡ k) → (eqb q k && eqb (n / 8) (b / 8)) ≡ false
+        apart (yes z) = rw (eq-eqb q k z) (ne-eqb (n / 8) (b / 8) (λ y. ne (omega arith)))
+        apart (no z) = rw (ne-eqb q k z) refl
+
 -- ---- a range
+
+-- eight bytes, and the others
+pub between-eight : (b high n : ℕ) → b % 8 ≡ 0 → b + 8 ≤ high + 1 → between b high n ≡ (eqb (n / 8) (b / 8) || between (b + 8) high n)
+unfolding between
+between-eight b high n a h =
+    elim (ℕ-discrete (n / 8) (b / 8)) [
+      | yes e ↦ rw (eq-eqb (n / 8) (b / 8) e, le-leb b n (omega arith), le-leb n high (omega arith)) refl
+      | no e ↦ rw (ne-eqb (n / 8) (b / 8) e) (from e (split b n))
+    ]
+  where
+    from : (n / 8 ≡ b / 8 → ⊥) → (b < n) ⊎ (n ≤ b) → (leb b n && leb n high) ≡ (leb (b + 8) n && leb n high)
+    from e (inl k) = rw (le-leb b n (omega arith), le-leb (b + 8) n (omega arith)) refl
+    from e (inr k) = rw (lt-leb b n (omega arith), lt-leb (b + 8) n (omega arith)) refl
 
 -- the first byte, and the others
 pub between-more : (b high n : ℕ) → b ≤ high → between b high n ≡ (eqb n b || between (b + 1) high n)

@@ -36,7 +36,7 @@ fn bit(p: usize) -> u8
     1u8 << p
 }
 
-// Marks the bytes low to high as those of the position that has k others before it.
+// Marks the bytes low to high as those of the position that has k others before it, eight at once where they are all the bits of one byte.
 fn mark(bytes: &mut [u8], k: usize, low: u8, high: u8)
     requires { ⌜ (k < positionLimit) × (byteSets ≤ length (now bytes)) ⌝ }
     ensures { λ _. ⌜ Marked k (between low high) (now (bytes .entry)) (now (bytes .exit)) ⌝ }
@@ -45,8 +45,13 @@ fn mark(bytes: &mut [u8], k: usize, low: u8, high: u8)
     let mut b = low as usize;
     while b < end {
         let i = k * BYTE_SET + b / 8;
-        bytes[i] = bytes[i] | bit(b % 8);
-        b += 1;
+        if b % 8 == 0 && b + 8 <= end {
+            bytes[i] = 255;
+            b += 8;
+        } else {
+            bytes[i] = bytes[i] | bit(b % 8);
+            b += 1;
+        }
     }
 }
 
