@@ -1,5 +1,5 @@
 -- Signs of states. A state to which nothing leads whose sign is among those that moved agrees still with those that it agreed with.
---   has-ones, or-left, or-right, or-none, and-none: bits of words
+--   or-left, or-right, or-none, and-none: bits of words
 --   Aimed, aimed-none, aimed-more, aimed-all: the signs of the states to which the first kinds lead, and so to which all bytes lead
 --   noted-more: they are noted, one state after the other
 --   calm-left, calm-right: two states whose targets have no sign in common with those that moved
@@ -7,7 +7,7 @@
 --   stayed-none, stayed-still, stayed-moved: the signs of a round, state by state
 use Prim.Native.Nat.{ℕ, _+_, _%_, _^_, _<_}
 use mathlib.Core.Path.{_≡_, refl, sym, ap, _∙_}
-use mathlib.Core.Bool.{Bool, true, false, _&&_, _||_, true≢false}
+use mathlib.Core.Bool.{true, false, _&&_, or-true, true≢false}
 use mathlib.Core.Logic.{inl, inr}
 use mathlib.Core.List.{List}
 use native.Mathlib.Nat.{mod-lt}
@@ -21,9 +21,9 @@ use lib.Seq.{getD-set-same, getD-set-other}
 use Rattle.scope.specs.Bits.{has}
 use Rattle.scope.specs.Machine.{Machine, Closed}
 use Rattle.scope.specs.Buffers.{Written}
-use Rattle.scope.proofs.Bits.{has-or, has-pow, has-zero}
+use Rattle.scope.proofs.Bits.{has-or, has-pow, has-zero, has-ones}
 use Rattle.scope.proofs.Moves.{has-and}
-use Rattle.scope.proofs.Tests.{all-is, which}
+use Rattle.scope.proofs.Tests.{which}
 use Rattle.parts.specs.Side.{both, cellIn}
 use Rattle.parts.specs.Kinds.{ColumnsOf}
 use Rattle.parts.specs.Parts.{Renamed, Agree}
@@ -32,13 +32,6 @@ use Rattle.parts.proofs.Names.{named-same, agree-itself, agree-flip, ag
 use Rattle.parts.proofs.Rooms.{cell-next}
 
 -- ---- bits
-
-has-ones : (k : ℕ) → k < 64 → has 18446744073709551615 k ≡ true
-has-ones k h = all-is (has 18446744073709551615) 64 .sound refl k h
-
-or-true : (b : Bool) → (b || true) ≡ true
-or-true true = refl
-or-true false = refl
 
 or-left : (a b k : ℕ) → has a k ≡ true → has (bitOr a b) k ≡ true
 or-left a b k h = has-or a b k ∙ rw h refl
@@ -95,7 +88,7 @@ module _ (next : ℕ → ℕ → ℕ) (p q s t moved : ℕ) (e : bitAnd (bitOr s
 -- every sign is there: no state is calm
 pub steady-first : (next : ℕ → ℕ → ℕ) (part : List ℕ) (n : ℕ) → Steady next part n 18446744073709551615
 steady-first next part n = record {
-  agree = λ p q hp hq e c d. absurd (true≢false (sym (has-ones (next p 0 % signs) (mod-lt (next p 0) (lit< tt))) ∙ c 0 (lit< tt)));
+  agree = λ p q hp hq e c d. absurd (true≢false (sym (has-ones 64 (next p 0 % signs) (mod-lt (next p 0) (lit< tt))) ∙ c 0 (lit< tt)));
 }
 
 -- the states of one new part agreed in the old ones, and calm ones lead to states that have their old part; part: the new ones, copied

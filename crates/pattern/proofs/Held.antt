@@ -7,7 +7,7 @@
 --   kept-more: a buffer whose tail stays
 use Prim.Native.Nat.{ℕ, _+_, _*_, _/_, _%_, _^_, _<_, _≤_}
 use mathlib.Core.Path.{_≡_, refl, sym, ap, ap₂, _∙_}
-use mathlib.Core.Bool.{Bool, true, false, _&&_, _||_, and-false, or-false, or-true, or-assoc, and-or-distrib-left}
+use mathlib.Core.Bool.{Bool, false, _&&_, _||_, and-false, or-false, or-true, or-assoc, and-or-distrib-left}
 use mathlib.Core.List.{List}
 use mathlib.Core.Logic.{_⊎_, inl, inr}
 use native.Mathlib.Decide.{ℕ-discrete}
@@ -21,8 +21,8 @@ use Rattle.scope.specs.Bits.{has}
 use Rattle.scope.specs.Buffers.{TailKept}
 use Rattle.scope.specs.Bytes.{ByteSet, between}
 use Rattle.scope.specs.Limits.{byteValues, positionLimit}
-use Rattle.scope.proofs.Bits.{has-or, has-pow}
-use Rattle.scope.proofs.Tests.{split, all-is}
+use Rattle.scope.proofs.Bits.{has-or, has-pow, has-ones}
+use Rattle.scope.proofs.Tests.{split}
 use Rattle.scope.proofs.Buffers.{all-kept}
 use Rattle.pattern.specs.Held.{byteSet, byteSets, held, Marked}
 
@@ -95,9 +95,6 @@ mark-bit k b v m h l hb ev = rw ev (record {
 
 -- ---- eight bits
 
-has-full : (j : ℕ) → j < 8 → has 255 j ≡ true
-has-full j h = all-is (has 255) 8 .sound refl j h
-
 -- all bits of the byte that has the bit b were stored
 pub mark-eight : (k b : ℕ) (m : List ℕ) → k < positionLimit → byteSets ≤ length m → b < 256 → Marked k (λ n. eqb (n / 8) (b / 8)) m (set m (k * byteSet + b / 8) 255)
 unfolding held
@@ -113,7 +110,7 @@ mark-eight k b m h l hb = record {
         let z : n / 8 ≡ b / 8 = omega arith in
         ap (λ (i : ℕ). has (getD (set m (k * 32 + b / 8) 255) i 0) (n % 8)) e
         ∙ ap (λ (x : ℕ). has x (n % 8)) (getD-set-same m (k * 32 + b / 8) 255 0 (omega arith))
-        ∙ has-full (n % 8) (omega arith)
+        ∙ has-ones 8 (n % 8) (omega arith)
         ∙ sym (rw (eq-eqb q k y, eq-eqb (n / 8) (b / 8) z) (or-true (has (getD m (q * 32 + n / 8) 0) (n % 8))))
     at q n hn (no ne) =
         ap (λ (x : ℕ). has x (n % 8)) (getD-set-other m (k * 32 + b / 8) (q * 32 + n / 8) 255 0 ne)

@@ -1,14 +1,15 @@
 -- The numbers of `Bits` have the bits that the predicates of `Sets` say: one law for each of the five. A union is `or`, `given` is `and`.
---   has-or, has-half, has-pow, has-zero, has-given: the bits of a union, of a half, of a power of 2, of 0, of what is given or not
+--   has-or, has-half, has-pow, has-zero, has-ones, has-given: the bits of a union, of a half, of a power of 2, of 0, of ones alone, of what is given or not
 --   null-is, first-is, last-is, follow-is, holders-is: what each number decides
 use mathlib.Core.Path.{_≡_, refl, sym, ap, _∙_}
 use mathlib.Core.Bool.{Bool, true, false, _&&_, _||_}
 use mathlib.Core.Logic.{_⊎_, inl, inr}
-use Prim.Native.Nat.{ℕ, zero, suc, _+_, _/_, _%_, _^_, _<_}
+use Prim.Native.Nat.{ℕ, zero, suc, _+_, _-_, _/_, _%_, _^_, _<_}
 use native.Mathlib.Nat.{div-one, pow-suc, pow-succ', div-div-eq-div-mul, mul-div-cancel, mul-mod-left, div-eq-of-lt, mod-lt}
 use native.Mathlib.Omega.{arith}
+use borrow.Author.Tests.{eq-eqb}
 use lib.Dec.{eqb, eqb·suc-suc, eqb·zero-suc, eqb·suc-zero, lit<}
-use lib.Pow.{pow-lt}
+use lib.Pow.{pow-lt, pow-pos}
 use lib.Bits.{bitOr, or-shr, or-mod}
 use Rattle.scope.specs.Re.{Re, none, eps, one, alt, cat, star, size}
 use Rattle.scope.specs.Sets.{Null, First, Last, Follow, At}
@@ -49,6 +50,14 @@ has-pow (suc p) (suc k) = has-half (2 ^ suc p) k ∙ ap (λ (m : ℕ). has (m / 
 pub has-zero : (k : ℕ) → has 0 k ≡ false
 has-zero zero = refl
 has-zero (suc k) = has-half 0 k ∙ has-zero k
+
+-- the number whose lowest n bits are 1
+pub has-ones : (n k : ℕ) → k < n → has (2 ^ n - 1) k ≡ true
+has-ones zero k h = absurd (omega arith)
+has-ones (suc n) zero h = eq-eqb ((2 ^ suc n - 1) / 1 % 2) 1 (omega (arith, pow-suc 2 n, pow-pos n))
+has-ones (suc n) (suc k) h =
+    let half : (2 ^ suc n - 1) / 2 ≡ 2 ^ n - 1 = omega (arith, pow-suc 2 n, pow-pos n) in
+    has-half (2 ^ suc n - 1) k ∙ ap (λ (m : ℕ). has m k) half ∙ has-ones n k (omega arith)
 
 pub has-given : (c : Bool) (s k : ℕ) → has (given c s) k ≡ (c && has s k)
 has-given true s k = refl
