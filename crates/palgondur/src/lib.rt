@@ -7,6 +7,8 @@ ghost use Rattle.scope.specs.Match.{Matches};
 ghost use Rattle.scope.specs.Minimise.{Minimises};
 ghost use Rattle.scope.specs.Pack.{Packs};
 ghost use Rattle.scope.specs.Unpack.{Unpacks};
+ghost use Rattle.desk.specs.Open.{Opens};
+ghost use Rattle.desk.specs.Press.{Presses};
 
 // Compiling: 0 Done, 1 ROOM, 2 LONG, 3 to 6 SYNTAX, RANGE, DEPTH, POSITIONS with their place, 7 CLASSES, 8 STATES.
 #[no_mangle]
@@ -95,4 +97,22 @@ pub extern "C" fn palgondur_unpack(
 {
     let unpacked = packing::unpack(form, room, bytes, words);
     unpacked.number()
+}
+
+// Opening a form of the desk: 0 Done, 1 ROOM, 9 FORM, 21 FIELDS.
+#[no_mangle]
+pub extern "C" fn palgondur_desk_open(count: usize, rooms: &[u8], form: &mut [u8]) -> u8
+    ensures { λ r. ⌜ Opens count (now (rooms .entry)) (now (form .entry)) (now (form .exit)) r ⌝ }
+{
+    let opened = desk::open_form(count, rooms, form);
+    opened.number()
+}
+
+// A key at the desk: 0 Done, 1 ROOM, 9 FORM, 10 DEAD BYTE, 11 UNFINISHED, 12 LENGTH, 13 CLOSED.
+#[no_mangle]
+pub extern "C" fn palgondur_desk_key(rooms: &[u8], form: &mut [u8], key: u8) -> u8
+    ensures { λ r. ⌜ Presses (now (rooms .entry)) (now (form .entry)) (now (form .exit)) key r ⌝ }
+{
+    let pressed = desk::press(rooms, form, key);
+    pressed.number()
 }

@@ -1,0 +1,92 @@
+-- What a form holds after any keys: the form of the history of those that were accepted. Each accepted key leads from the form of an entry to the form of the
+-- entry with that key typed, and a refused key leaves the form.
+--   history-shows: after keys from an opened form, the form is that of the history of the accepted keys
+--   history-texts: so each text, and the number of closed fields, is what that history gives
+--   no-trace: the accepted keys alone lead to the same form
+use Prim.Native.Nat.{ℕ, _-_, _≤_, _<_}
+use mathlib.Core.Path.{_≡_, _∙_}
+use mathlib.Core.Logic.{inl, inr}
+use mathlib.Core.List.{List, [], _∷_, _++_}
+use native.Mathlib.Omega.{arith}
+use borrow.Author.Tests.{ne-eqb}
+use lib.Dec.{eqb}
+use lib.ListN.{length, take, length-append, length-take}
+use Rattle.scope.specs.Answers.{DONE}
+use Rattle.scope.specs.Buffers.{TailKept}
+use Rattle.scope.specs.Machine.{walk}
+use Rattle.scope.proofs.Tests.{which}
+use Rattle.desk.specs.Entry.{Entry, nothing, openText, BACK, CLOSE, retyped, typed, history}
+use Rattle.desk.specs.Form.{fieldLimit, textLimit, formBytes, closedOf, textOf, Shows}
+use Rattle.desk.specs.Key.{Judges, taken-back, field-closed, byte-taken}
+use Rattle.desk.specs.Open.{Opens, opened}
+use Rattle.desk.specs.Press.{Presses, answered}
+use Rattle.desk.specs.History.{Pressed, none, accepted, refused}
+use Rattle.desk.proofs.Shown.{text-shown}
+use Rattle.desk.proofs.One.{shows-moved}
+use Rattle.desk.proofs.Presses.{judges-moved, after-one, given-one, refused-stays}
+
+-- ---- texts stay short
+
+-- each text has at most 128 bytes
+abbrev Short : Entry → Type 0
+Short e = (f : ℕ) → length (e .text f) ≤ textLimit
+
+-- another text in the open field
+short-retyped : (e : Entry) (t : List ℕ) → Short e → length t ≤ textLimit → Short (retyped e t)
+short-retyped e t s h f = elim (which (eqb f (e .closed))) [ inl b ↦ rw b h | inr b ↦ rw b (s f) ]
+
+-- an accepted key
+short-typed : {rooms : List ℕ} {n : ℕ} {e : Entry} {key : ℕ} → Judges rooms n e key DONE → Short e → Short (typed e key)
+short-typed {e = e} (taken-back h k) s =
+    rw k (short-retyped e (take (length (openText e) - 1) (openText e)) s (omega (arith, s (e .closed), length-take (length (openText e) - 1) (openText e))))
+short-typed (field-closed h k m) s = rw k s
+short-typed {e = e} {key} (byte-taken h k l m) s =
+    rw (ne-eqb key BACK (k .0), ne-eqb key CLOSE (k .1)) (short-retyped e (openText e ++ (key ∷ [])) s (omega (arith, length-append (openText e) (key ∷ []))))
+
+-- ---- keys
+
+-- the form, made of the old one, is that of the entry
+record Holds (n : ℕ) (old form : List ℕ) (e : Entry) : Type 0 where
+  shows : Shows n e form
+  tail : TailKept formBytes old form
+  short : Short e
+
+module _ {rooms : List ℕ} where
+  -- an opened form
+  holds-none : {n : ℕ} {form form′ : List ℕ} → Opens n rooms form form′ DONE → Holds n form form′ nothing
+  holds-none (opened f l s e k) = record { shows = e; tail = k; short = λ f. omega arith }
+
+  -- an accepted key
+  holds-key : {n : ℕ} {old form form′ : List ℕ} {e : Entry} {key : ℕ} → Presses rooms form form′ key DONE → Holds n old form e → Holds n old form′ (typed e key)
+  holds-key (answered l r u s k) h =
+      let few = r .given .fields .few in
+      let g = given-one r (h .shows) in
+      record {
+        shows = rw (h .shows .count) at (shows-moved (after-one few g u) s);
+        tail = record { size = k .size ∙ h .tail .size; outside = λ i j. k .outside i j ∙ h .tail .outside i j };
+        short = short-typed (judges-moved few g u) (h .short);
+      }
+
+  -- any keys
+  holds-keys : {n : ℕ} {old form form′ keys kept : List ℕ} {e : Entry} → Pressed rooms form keys kept form′ → Holds n old form e → Holds n old form′ (walk typed e kept)
+  holds-keys none h = h
+  holds-keys (accepted p q) h = holds-keys q (holds-key p h)
+  holds-keys (refused p d q) h = holds-keys q (rw (refused-stays p d) h)
+
+  module _ {n : ℕ} {form form₁ form₂ keys kept : List ℕ} (o : Opens n rooms form form₁ DONE) (p : Pressed rooms form₁ keys kept form₂) where
+    -- the form is that of the history
+    pub history-shows : Shows n (history kept) form₂ × TailKept formBytes form form₂
+    history-shows = let h = holds-keys p (holds-none o) in (h .shows, h .tail)
+
+    -- and so are its texts
+    pub history-texts : (closedOf form₂ ≡ history kept .closed) × ((f : ℕ) → f < fieldLimit → textOf form₂ f ≡ history kept .text f)
+    history-texts = let h = holds-keys p (holds-none o) in (h .shows .closed, λ f k. text-shown (long o h) (h .shows) f k (h .short f))
+      where
+        long : Opens n rooms form form₁ DONE → Holds n form form₂ (history kept) → formBytes ≤ length form₂
+        long (opened f l s e k) h = omega (arith, l .form-long, h .tail .size)
+
+  -- a refused key leaves no trace
+  pub no-trace : {form form′ keys kept : List ℕ} → Pressed rooms form keys kept form′ → Pressed rooms form kept kept form′
+  no-trace none = none
+  no-trace (accepted p q) = accepted p (no-trace q)
+  no-trace (refused p d q) = rw (refused-stays p d) at (no-trace q)

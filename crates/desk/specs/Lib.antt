@@ -1,0 +1,9 @@
+pub mod Answers
+pub mod Form
+pub mod Entry
+pub mod Key
+pub mod Open
+pub mod Press
+pub mod Test
+pub mod History
+pub mod Stand

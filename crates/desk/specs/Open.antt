@@ -1,0 +1,33 @@
+-- Opening a form.
+--   DeskLent n rooms form: the form and n machine rooms are long enough
+--   AllSound rooms n: each of the n machines is sound
+--   Opens: what opening answers, and what the form holds then. Index: number.
+-- Determined: the conditions exclude one another, and a form of nothing is one.
+use Prim.Native.Nat.{ℕ, _*_, _<_, _≤_}
+use mathlib.Core.Path.{_≡_}
+use mathlib.Core.List.{List}
+use lib.ListN.{length}
+use Rattle.scope.specs.Answers.{DONE, ROOM, FORM}
+use Rattle.scope.specs.Buffers.{TailKept}
+use Rattle.scope.specs.Limits.{roomBytes}
+use Rattle.scope.specs.Room.{Sound}
+use Rattle.desk.specs.Answers.{FIELDS}
+use Rattle.desk.specs.Entry.{nothing}
+use Rattle.desk.specs.Form.{formBytes, Fields, Shows}
+use Rattle.desk.specs.Key.{roomOf}
+
+-- not ROOM: "rooms short of the form's count too"
+pub record DeskLent (n : ℕ) (rooms form : List ℕ) : Type 0 where
+  pub form-long : formBytes ≤ length form
+  pub rooms-long : n * roomBytes ≤ length rooms
+
+abbrev pub AllSound : List ℕ → ℕ → Type 0
+AllSound rooms n = (f : ℕ) → f < n → Sound (roomOf rooms f)
+
+module _ (n : ℕ) (rooms form form′ : List ℕ) where
+  -- "on opening, 21 FIELDS for a count outside 1 to 16, then 1, then 9 for an unsound machine"
+  pub data Opens : ℕ → Type 0 where
+    no-fields : (Fields n → ⊥) → form′ ≡ form → Opens FIELDS
+    no-room : Fields n → (DeskLent n rooms form → ⊥) → form′ ≡ form → Opens ROOM
+    no-form : Fields n → DeskLent n rooms form → (AllSound rooms n → ⊥) → form′ ≡ form → Opens FORM
+    opened : Fields n → DeskLent n rooms form → AllSound rooms n → Shows n nothing form′ → TailKept formBytes form form′ → Opens DONE
