@@ -32,12 +32,15 @@
 //! | compare | [`Machine::compare`] |
 //! | pack | [`Machine::pack`] |
 //! | unpack | [`Form::unpack`] |
+//! | open an entry form | [`Desk::open`] |
+//! | a key to an entry form | [`Desk::key`] |
 //!
-//! All but matching work in a [`Scratch`]. They make one, or are lent one where their name ends in `_with`. Module
-//! [`raw`] has the same operations on bare slices.
+//! All but matching and the desk's two work in a [`Scratch`]. They make one, or are lent one where their name ends in
+//! `_with`. Module [`raw`] has the same operations on bare slices.
 #![deny(missing_docs)]
 #![deny(unsafe_op_in_unsafe_fn)]
 
+mod desk;
 mod form;
 pub mod limits;
 mod machine;
@@ -45,6 +48,7 @@ pub mod raw;
 mod refusal;
 mod scratch;
 
+pub use desk::{Desk, KeyRefusal, OpenRefusal};
 pub use form::Form;
 pub use machine::{Comparison, Machine, Match};
 pub use refusal::Refusal;

@@ -12,7 +12,7 @@ pub const CLASSES: usize = 64;
 pub const STATES: usize = 128;
 /// Bytes of a machine room: the two numbers, the class of each byte value, the accept marks, the cells.
 pub const ROOM: usize = 2 + 256 + STATES + STATES * CLASSES;
-/// Bytes of a form, at most: its bit fields, filled to a whole byte.
+/// Bytes of a packed form, at most: its bit fields, filled to a whole byte.
 pub const FORM: usize = (4 + 7 + 6 + 256 * 6 + STATES + STATES * CLASSES * 7 + 7) / 8;
 /// Bytes of a separating string, at most.
 pub const WORD: usize = 2 * STATES - 2;
@@ -20,3 +20,9 @@ pub const WORD: usize = 2 * STATES - 2;
 pub const SCRATCH_BYTES: usize = 32_768;
 /// Words of scratch, of eight bytes each.
 pub const SCRATCH_WORDS: usize = 256;
+/// Fields of an entry form, at most.
+pub const FIELDS: usize = 16;
+/// Bytes of a field's text, at most.
+pub const TEXT: usize = 128;
+/// Bytes of an entry form: the two numbers, the length of each text, the texts.
+pub const ENTRY: usize = 2 + FIELDS + FIELDS * TEXT;

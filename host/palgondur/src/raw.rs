@@ -1,7 +1,8 @@
-//! The six operations as the archive has them: slices of any length in, numbers out.
+//! The operations as the archive has them: slices of any length in, numbers out.
 //!
 //! Nothing is judged here: a room or scratch that is too short is the operation's ROOM. The numbers are those of
-//! [`Refusal::number`](crate::Refusal::number), and 0 for Done, Accepted and Same, [`DEAD`], [`UNFINISHED`],
+//! [`Refusal::number`](crate::Refusal::number), for the desk also of [`OpenRefusal::number`](crate::OpenRefusal::number)
+//! and [`KeyRefusal::number`](crate::KeyRefusal::number), and 0 for Done, Accepted and Same, [`DEAD`], [`UNFINISHED`],
 //! [`SEPARATED`]. A number that an answer does not have is 0.
 //!
 //! ```
@@ -12,6 +13,13 @@
 //! assert_eq!(raw::match_text(&room, b"ac"), (raw::DEAD, 2));
 //! assert_eq!(raw::compile(b"a|", &mut room, &mut bytes, &mut words), (3, 2));
 //! assert_eq!(raw::match_text(&room[1..], b"ac"), (1, 0));
+//!
+//! let mut form = [0; limits::ENTRY];
+//! assert_eq!(raw::desk_open(1, &room, &mut form), 0);
+//! assert_eq!(raw::desk_key(&room, &mut form, b'a'), 0);
+//! assert_eq!(raw::desk_key(&room, &mut form, b'c'), 10);
+//! assert_eq!(raw::desk_key(&room[1..], &mut form, b'b'), 1);
+//! assert_eq!((form[2], form[18], form[19]), (1, b'a', 0));
 //! ```
 
 /// The number of a match that is Dead.
@@ -49,6 +57,8 @@ extern "C" {
         length: &mut usize,
     ) -> u8;
     fn palgondur_unpack(form: &[u8], room: &mut [u8], bytes: &mut [u8], words: &mut [u64]) -> u8;
+    fn palgondur_desk_open(count: usize, rooms: &[u8], form: &mut [u8]) -> u8;
+    fn palgondur_desk_key(rooms: &[u8], form: &mut [u8], key: u8) -> u8;
 }
 
 // Why the calls below are sound. Each function's proved contract takes slices of every length and content, so there is
@@ -105,4 +115,16 @@ pub fn pack(room: &[u8], form: &mut [u8], bytes: &mut [u8], words: &mut [u64]) -
 /// Unpacks `form`, all of it, into `room`: the answer's number.
 pub fn unpack(form: &[u8], room: &mut [u8], bytes: &mut [u8], words: &mut [u64]) -> u8 {
     unsafe { palgondur_unpack(form, room, bytes, words) }
+}
+
+/// Opens an entry form of `count` fields at the front of `form`, for the rooms that lie end to end in `rooms`: the
+/// answer's number.
+pub fn desk_open(count: usize, rooms: &[u8], form: &mut [u8]) -> u8 {
+    unsafe { palgondur_desk_open(count, rooms, form) }
+}
+
+/// Gives a key to the entry form at the front of `form`, whose fields have the rooms that lie end to end in `rooms`: the
+/// answer's number.
+pub fn desk_key(rooms: &[u8], form: &mut [u8], key: u8) -> u8 {
+    unsafe { palgondur_desk_key(rooms, form, key) }
 }

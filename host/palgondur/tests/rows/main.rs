@@ -1,5 +1,7 @@
 //! The library through its types: rows of questions and answers, all run by `agree`.
 
+mod desk;
+
 use palgondur::{limits, Comparison, Form, Machine, Match, Refusal, Scratch};
 use std::fmt::Debug;
 
@@ -343,5 +345,9 @@ fn the_sizes_are_those_of_the_rules() {
     assert_eq!(
         (limits::ROOM, limits::FORM, limits::WORD),
         (8_578, 7_379, 254)
+    );
+    assert_eq!(
+        (limits::FIELDS, limits::TEXT, limits::ENTRY),
+        (16, 128, 2_066)
     );
 }
