@@ -2,12 +2,13 @@
 //!
 //! Every key goes to the desk, which takes or refuses it, and what is drawn is what the desk then holds. A refused key is
 //! named with the reason, and is never part of a field. Enter, which terminals send as 0x0D, closes the open field.
-//! Backspace, which most of them send as 0x7F, is given to the desk as 0x08, and takes back a byte. Ctrl-C, Ctrl-D and the
-//! end of the input leave the form. When all fields are closed, their texts are printed.
+//! Backspace, which most of them send as 0x7F, is given to the desk as 0x08, and takes back a byte. Of keys that send
+//! several bytes, as the arrows do, the desk is given the first byte alone. Ctrl-C, Ctrl-D and the end of the input leave
+//! the form. When all fields are closed, their texts are printed.
 //!
 //! While the form is drawn the terminal hands over each key as it is pressed and shows none by itself. It is set back at
 //! the end, also where the form is left, but not where the program is killed. The exit status is 0 if the form was filled
-//! in, 1 if it was left, and 2 if standard input or output is no terminal.
+//! in, 1 if it was left, and 2 if standard input or output is no terminal or fails.
 
 use palgondur::{Desk, Machine};
 use std::error::Error;

@@ -6,8 +6,8 @@ use std::fmt;
 /// An entry form that is being filled in, with the machine of each of its fields.
 ///
 /// The fields are filled in their order. One of them is open, and the keys go to it; those before it are closed, and stay
-/// as they are; those after it are empty. A field is closed only with a text that its machine accepts, and no byte gets
-/// into a field after which nothing would. A refused key changes nothing.
+/// as they are; those after it are empty. A field takes no byte after which its machine could accept nothing, and is
+/// closed only with a text that its machine accepts. A refused key changes nothing.
 ///
 /// ```
 /// use palgondur::{Desk, KeyRefusal, Machine};

@@ -35,6 +35,8 @@
 //! | open an entry form | [`Desk::open`] |
 //! | a key to an entry form | [`Desk::key`] |
 //!
+//! An entry form whose fields are filled in key by key is a [`Desk`].
+//!
 //! All but matching and the desk's two work in a [`Scratch`]. They make one, or are lent one where their name ends in
 //! `_with`. Module [`raw`] has the same operations on bare slices.
 #![deny(missing_docs)]

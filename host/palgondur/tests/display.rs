@@ -80,6 +80,17 @@ fn example() -> Command {
     }
 }
 
+/// The exit status of a child, which must come before that end.
+fn status(child: &mut Child, end: Instant) -> Option<i32> {
+    loop {
+        if let Some(status) = child.try_wait().unwrap() {
+            return status.code();
+        }
+        assert!(Instant::now() < end, "the example does not end");
+        thread::sleep(Duration::from_millis(5));
+    }
+}
+
 /// The example, running in a terminal of its own.
 struct Display {
     child: Child,
@@ -177,18 +188,12 @@ impl Display {
     /// Waits for the end: the exit status, and what was written after the screen was left. The terminal must be set as it
     /// was before.
     fn ended(mut self) -> (Option<i32>, String) {
-        let status = loop {
-            if let Some(status) = self.child.try_wait().unwrap() {
-                break status;
-            }
-            assert!(Instant::now() < self.end, "no end: {:?}", self.written);
-            thread::sleep(Duration::from_millis(5));
-        };
+        let status = status(&mut self.child, self.end);
         assert_eq!(settings(&self.its), self.before);
         self.its = File::open("/dev/null").unwrap();
         while self.read() {}
         let (_, after) = self.written.rsplit_once("\x1B[?1049l").unwrap();
-        (status.code(), after.to_string())
+        (status, after.to_string())
     }
 }
 
@@ -251,7 +256,8 @@ fn the_form_is_filled_in() {
         ("\x08", first("012"), none()),
         // The arrow up ends in an A, which is none that was typed; the key after it is.
         ("\x1B[A", first("012"), part('A')),
-        ("\x1BOP", first("012"), part('P')),
+        ("A", first("012A"), none()),
+        ("\x7F\x1BOP", first("012"), part('P')),
         ("\x1B[3~", first("012"), part('~')),
         ("\x1BA\x7F", first("012"), none()),
         (&component[3..31], first(&component[..31]), none()),
@@ -295,9 +301,23 @@ fn the_form_is_left() {
 
 #[test]
 fn without_a_terminal_there_is_no_form() {
-    let output = example().stdin(Stdio::null()).output().unwrap();
-    let error = String::from_utf8(output.stderr).unwrap();
-    let sentence = "desk: standard input and output must be a terminal\n";
-    assert_eq!((output.status.code(), &error[..]), (Some(2), sentence));
-    assert!(output.stdout.is_empty());
+    let (_ours, its) = terminal();
+    let its = || Stdio::from(its.try_clone().unwrap());
+    // Standard input and output.
+    let rows = [
+        (Stdio::null(), Stdio::piped()),
+        (its(), Stdio::piped()),
+        (Stdio::null(), its()),
+    ];
+    for (input, output) in rows {
+        let mut command = example();
+        command.stdin(input).stdout(output).stderr(Stdio::piped());
+        let mut child = command.spawn().unwrap();
+        let status = status(&mut child, Instant::now() + LIMIT);
+        let output = child.wait_with_output().unwrap();
+        let error = String::from_utf8(output.stderr).unwrap();
+        let sentence = "desk: standard input and output must be a terminal\n";
+        assert_eq!((status, &error[..]), (Some(2), sentence));
+        assert!(output.stdout.is_empty());
+    }
 }

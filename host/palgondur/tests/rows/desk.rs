@@ -304,7 +304,7 @@ fn forms_from_outside_are_judged() {
         ((&["a*", "a*"], b"a\ra\r", vec![Form(19, 1)]), [9; 4]),
         ((&["a*", "a*"], b"a\ra\r", vec![Form(274, 1)]), [9; 4]),
         ((&["a*", "a*"], b"a\ra\r", vec![Form(last, 1)]), [9; 4]),
-        // Lengths. A longer text of zeros is a text that the second machine takes.
+        // Lengths. What is longer by zeros is a text too where all bytes are taken.
         ((&["a*", "a*"], b"a", vec![Form(2, 0)]), [9; 4]),
         ((&["a*", "a*"], b"a", vec![Form(2, 2)]), [9; 4]),
         ((&[".*"], b"a", vec![Form(2, 128)]), [0, 0, 12, 12]),
