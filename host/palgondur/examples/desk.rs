@@ -1,14 +1,14 @@
 //! An entry form on a terminal: three fields, filled in key by key.
 //!
-//! Every key goes to the desk, which takes or refuses it, and what is drawn is what the desk then holds. A refused key is
-//! named with the reason, and is never part of a field. Enter, which terminals send as 0x0D, closes the open field.
+//! Every key goes to the desk, which takes or refuses it, and what is drawn is what the desk then holds. A refused key
+//! is named with the reason, and is never part of a field. Enter, which terminals send as 0x0D, closes the open field.
 //! Backspace, which most of them send as 0x7F, is given to the desk as 0x08, and takes back a byte. Of keys that send
-//! several bytes, as the arrows do, the desk is given the first byte alone. Ctrl-C, Ctrl-D and the end of the input leave
-//! the form. When all fields are closed, their texts are printed.
+//! several bytes, as the arrows do, the desk is given the first byte alone. Ctrl-C, Ctrl-D and the end of the input
+//! leave the form. When all fields are closed, their texts are printed.
 //!
-//! While the form is drawn the terminal hands over each key as it is pressed and shows none by itself. It is set back at
-//! the end, also where the form is left, but not where the program is killed. The exit status is 0 if the form was filled
-//! in, 1 if it was left, and 2 if standard input or output is no terminal or fails.
+//! While the form is drawn the terminal hands over each key as it is pressed and shows none by itself. It is set back
+//! at the end, also where the form is left, but not where the program is killed. The exit status is 0 if the form was
+//! filled in, 1 if it was left, and 2 if standard input or output is no terminal or fails.
 
 use palgondur::{Desk, Machine};
 use std::error::Error;
@@ -109,8 +109,8 @@ fn fill(fields: &[Field], desk: &mut Desk) -> io::Result<()> {
     }
 }
 
-/// Where a byte stands. An arrow or function key sends several bytes: 0x1B, then `[` or `O`, then some from 0x20 to 0x3F,
-/// then one from 0x40 to 0x7E. Those after 0x1B are nothing that was typed, and do not go to the desk.
+/// Where a byte stands. An arrow or function key sends several bytes: 0x1B, then `[` or `O`, then some from 0x20 to
+/// 0x3F, then one from 0x40 to 0x7E. Those after 0x1B are nothing that was typed, and do not go to the desk.
 #[derive(Clone, Copy)]
 enum Place {
     /// A key of one byte.
@@ -201,8 +201,8 @@ extern "C" {
 const INPUT: c_int = 0;
 const OUTPUT: c_int = 1;
 
-/// When to change the settings: after what is written, and without what was typed and not read. So nothing that is typed
-/// ahead gets from the shell into the form, nor from the form into the shell.
+/// When to change the settings: after what is written, and without what was typed and not read. So nothing that is
+/// typed ahead gets from the shell into the form, nor from the form into the shell.
 const FLUSH: c_int = 2;
 
 /// The terminal while it hands over each key as it is pressed, on a screen of its own. Dropped, it is as it was before.

@@ -5,9 +5,9 @@ use std::fmt;
 
 /// An entry form that is being filled in, with the machine of each of its fields.
 ///
-/// The fields are filled in their order. One of them is open, and the keys go to it; those before it are closed, and stay
-/// as they are; those after it are empty. A field takes no byte after which its machine could accept nothing, and is
-/// closed only with a text that its machine accepts. A refused key changes nothing.
+/// The fields are filled in their order. One of them is open, and the keys go to it; those before it are closed, and
+/// stay as they are; those after it are empty. A field takes no byte after which its machine could accept nothing, and
+/// is closed only with a text that its machine accepts. A refused key changes nothing.
 ///
 /// ```
 /// use palgondur::{Desk, KeyRefusal, Machine};
@@ -59,8 +59,8 @@ pub enum KeyRefusal {
 }
 
 impl Desk {
-    /// The key that takes back the last byte of the open field. On an empty field it does nothing: it never opens a closed
-    /// one again.
+    /// The key that takes back the last byte of the open field. On an empty field it does nothing: it never opens a
+    /// closed one again.
     pub const TAKE_BACK: u8 = 0x08;
 
     /// The key that closes the open field.

@@ -1,9 +1,9 @@
 //! The operations as the archive has them: slices of any length in, numbers out.
 //!
 //! Nothing is judged here: a room or scratch that is too short is the operation's ROOM. The numbers are those of
-//! [`Refusal::number`](crate::Refusal::number), for the desk also of [`OpenRefusal::number`](crate::OpenRefusal::number)
-//! and [`KeyRefusal::number`](crate::KeyRefusal::number), and 0 for Done, Accepted and Same, [`DEAD`], [`UNFINISHED`],
-//! [`SEPARATED`]. A number that an answer does not have is 0.
+//! [`Refusal::number`](crate::Refusal::number), for the desk also of
+//! [`OpenRefusal::number`](crate::OpenRefusal::number) and [`KeyRefusal::number`](crate::KeyRefusal::number), and 0 for
+//! Done, Accepted and Same, [`DEAD`], [`UNFINISHED`], [`SEPARATED`]. A number that an answer does not have is 0.
 //!
 //! ```
 //! use palgondur::{limits, raw};
@@ -123,8 +123,8 @@ pub fn desk_open(count: usize, rooms: &[u8], form: &mut [u8]) -> u8 {
     unsafe { palgondur_desk_open(count, rooms, form) }
 }
 
-/// Gives a key to the entry form at the front of `form`, whose fields have the rooms that lie end to end in `rooms`: the
-/// answer's number.
+/// Gives a key to the entry form at the front of `form`, whose fields have the rooms that lie end to end in `rooms`:
+/// the answer's number.
 pub fn desk_key(rooms: &[u8], form: &mut [u8], key: u8) -> u8 {
     unsafe { palgondur_desk_key(rooms, form, key) }
 }

@@ -185,8 +185,8 @@ impl Display {
         screens.pop().unwrap()
     }
 
-    /// Waits for the end: the exit status, and what was written after the screen was left. The terminal must be set as it
-    /// was before.
+    /// Waits for the end: the exit status, and what was written after the screen was left. The terminal must be set as
+    /// it was before.
     fn ended(mut self) -> (Option<i32>, String) {
         let status = status(&mut self.child, self.end);
         assert_eq!(settings(&self.its), self.before);

@@ -1,7 +1,7 @@
 //! The desk through its type and on bare slices.
 //!
-//! What a form's fields hold is spelled as one string: the texts in their order, with a 0x0D where a field was closed. So
-//! `ab\rc` has one field closed, with `ab`, and the next one open, with `c`.
+//! What a form's fields hold is spelled as one string: the texts in their order, with a 0x0D where a field was closed.
+//! So `ab\rc` has one field closed, with `ab`, and the next one open, with `c`.
 
 use crate::{agree, machine};
 use palgondur::{raw, Desk, KeyRefusal, Machine, OpenRefusal};
@@ -233,8 +233,8 @@ fn keys_are_answered_on_bare_slices() {
     });
 }
 
-/// Gives a key on bare slices: the number of its answer. It must be the same on longer slices, of which the rest is left
-/// as it was; and a refusal must leave the form as it was.
+/// Gives a key on bare slices: the number of its answer. It must be the same on longer slices, of which the rest is
+/// left as it was; and a refusal must leave the form as it was.
 fn pressed(rooms: &[u8], form: &mut [u8], key: u8) -> u8 {
     let (before, mut more) = (form.to_vec(), longer(form));
     let number = raw::desk_key(rooms, form, key);
