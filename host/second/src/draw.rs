@@ -1,13 +1,15 @@
-//! Drawing patterns, texts, rooms and forms from a seed, for the comparison run.
+//! Drawing patterns, texts, rooms, forms and keys from a seed, for the comparison run.
 //!
 //! The same seed draws the same things. What is drawn is not judged here: a pattern near a limit may stand on either side of it.
 
 use crate::machine::Machine;
 use crate::matching::live;
 
+mod desks;
 mod patterns;
 mod rooms;
 
+pub use desks::{EntryDamage, Typing, ENTRY_DAMAGES};
 pub use patterns::{Alphabet, Limit, LIMITS};
 pub use rooms::{bound_pair, FormDamage, RoomDamage, FORM_DAMAGES, ROOM_DAMAGES};
 

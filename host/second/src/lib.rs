@@ -8,6 +8,7 @@
 //! | smallest machine | double reversal (`smallest`) |
 //! | comparison | lengths of all pairs, and breadth first (`pairs`) |
 //! | form | a list of bits (`form`) |
+//! | entry desk | lists of texts, and forms judged by typing them again (`desk`) |
 //!
 //! ```
 //! let left = second::machine(b"a*b*").unwrap();
@@ -17,6 +18,7 @@
 
 pub mod answer;
 pub mod derive;
+pub mod desk;
 pub mod draw;
 pub mod exhaustive;
 pub mod form;
@@ -31,5 +33,7 @@ pub mod smallest;
 pub mod text;
 
 pub use machine::{sound, Machine};
-pub use operations::{compare, compile, machine, match_text, minimise, pack, unpack};
+pub use operations::{
+    compare, compile, desk_key, desk_open, machine, match_text, minimise, pack, unpack,
+};
 pub use smallest::canonical;

@@ -1,4 +1,4 @@
-//! The numbers of document 01 that bound the work, and where the parts of a room lie.
+//! The numbers of document 01 that bound the work, and where the parts of a room and of an entry form lie.
 
 /// Longest pattern that is taken, in bytes.
 pub const PATTERN: usize = 1024;
@@ -28,3 +28,14 @@ pub const SCRATCH_BYTES: usize = 32768;
 pub const SCRATCH_WORDS: usize = 256;
 /// Room for a separating string.
 pub const WORD: usize = 254;
+
+/// Most fields of an entry form.
+pub const FIELDS: usize = 16;
+/// Most bytes of a field.
+pub const TEXT: usize = 128;
+/// Where the lengths of the fields begin in an entry form.
+pub const LENGTH_AT: usize = 2;
+/// Where the texts of the fields begin in an entry form.
+pub const TEXT_AT: usize = LENGTH_AT + FIELDS;
+/// Number of bytes of an entry form.
+pub const ENTRY_FORM: usize = TEXT_AT + FIELDS * TEXT;

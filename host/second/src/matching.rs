@@ -26,7 +26,11 @@ pub fn live(machine: &Machine) -> Vec<bool> {
 
 /// The answer and place of matching a text.
 pub fn answer(machine: &Machine, text: &[u8]) -> (u8, usize) {
-    let live = live(machine);
+    answer_by(machine, &live(machine), text)
+}
+
+/// The same, where the live states are known.
+pub fn answer_by(machine: &Machine, live: &[bool], text: &[u8]) -> (u8, usize) {
     let mut state = 0;
     for (place, &byte) in text.iter().enumerate() {
         if !live[state] {

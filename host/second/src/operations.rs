@@ -4,6 +4,7 @@
 //! neither read nor written.
 
 use crate::answer;
+use crate::desk::Desk;
 use crate::form;
 use crate::judge::judge;
 use crate::limits;
@@ -144,6 +145,45 @@ pub fn unpack(form: &[u8], room: &mut [u8], bytes: &mut [u8], words: &mut [u64])
         Some(machine) => {
             write(&machine, room);
             answer::DONE
+        }
+        None => answer::FORM,
+    }
+}
+
+/// Whether an entry form, or the rooms of so many fields, are shorter than they must be.
+fn short_desk(count: usize, rooms: &[u8], form: &[u8]) -> bool {
+    form.len() < limits::ENTRY_FORM || rooms.len() < count * limits::ROOM
+}
+
+/// Opens an entry form with so many fields, each with its room.
+pub fn desk_open(count: usize, rooms: &[u8], form: &mut [u8]) -> u8 {
+    if !(1..=limits::FIELDS).contains(&count) {
+        return answer::FIELDS;
+    }
+    if short_desk(count, rooms, form) {
+        return answer::ROOM;
+    }
+    match Desk::open(count, rooms) {
+        Some(desk) => {
+            form[..limits::ENTRY_FORM].copy_from_slice(&desk.form());
+            answer::DONE
+        }
+        None => answer::FORM,
+    }
+}
+
+/// Presses a key on an entry form.
+pub fn desk_key(rooms: &[u8], form: &mut [u8], key: u8) -> u8 {
+    let count = form.first().map_or(0, |&count| usize::from(count));
+    if short_desk(count, rooms, form) {
+        return answer::ROOM;
+    }
+    let form = &mut form[..limits::ENTRY_FORM];
+    match Desk::showing(rooms, form) {
+        Some(mut desk) => {
+            let number = desk.key(key);
+            form.copy_from_slice(&desk.form());
+            number
         }
         None => answer::FORM,
     }

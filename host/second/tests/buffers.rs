@@ -1,7 +1,7 @@
 //! What each operation leaves in every buffer, and the order of its judgements.
 
 use second::answer::*;
-use second::limits::{ROOM as ROOM_SIZE, SCRATCH_BYTES, SCRATCH_WORDS, WORD};
+use second::limits::{ENTRY_FORM, ROOM as ROOM_SIZE, SCRATCH_BYTES, SCRATCH_WORDS, TEXT, WORD};
 
 /// Scratch of given lengths, none of it zero.
 fn scratch(bytes: usize, words: usize) -> (Vec<u8>, Vec<u64>) {
@@ -155,4 +155,63 @@ fn answers_keep_tails() {
         assert!(is_clear(&bytes, &words));
     }
     assert_eq!(second::match_text(&good, b"aab"), (ACCEPTED, 0));
+}
+
+#[test]
+fn the_desk_changes_nothing_that_it_refuses() {
+    let (short, unsound) = (ENTRY_FORM - 1, vec![255; ROOM_SIZE]);
+    let rooms = [room(b"a*b"), room(b"\\0")].concat();
+    let mut form = vec![7; ENTRY_FORM + 4];
+    // The order of the judgements of opening, on a form that stays as it was.
+    let rows: [(usize, &[u8], usize, u8); 8] = [
+        (0, &[], 0, FIELDS),
+        (17, &unsound, short, FIELDS),
+        (usize::MAX, &rooms, ENTRY_FORM, FIELDS),
+        (1, &unsound, short, ROOM),
+        (2, &rooms[1..], ENTRY_FORM, ROOM),
+        (3, &rooms, ENTRY_FORM, ROOM),
+        (1, &unsound, ENTRY_FORM, FORM),
+        (1, &rooms[1..], ENTRY_FORM, FORM),
+    ];
+    for (count, rooms, length, number) in rows {
+        assert_eq!(second::desk_open(count, rooms, &mut form[..length]), number);
+        assert!(form.iter().all(|&byte| byte == 7));
+    }
+    assert_eq!(second::desk_key(&rooms, &mut form, b'a'), ROOM);
+    assert_eq!(second::desk_open(2, &rooms, &mut form), DONE);
+    let mut press = |keys: &[u8], number: u8| {
+        for &key in keys {
+            let before = form.clone();
+            assert_eq!(second::desk_key(&rooms, &mut form, key), number);
+            assert!(number == DONE || form == before);
+            assert_eq!(form[ENTRY_FORM..], [7; 4]);
+        }
+        form.clone()
+    };
+    press(b"c\0\xff", DEAD_BYTE);
+    press(b"\r", UNFINISHED_FIELD);
+    press(&[b'a'; TEXT], DONE);
+    press(b"abc\0", LENGTH);
+    let full = press(b"\r", UNFINISHED_FIELD);
+    press(b"\x08b\r", DONE);
+    press(b"ab", DEAD_BYTE);
+    let last = press(b"\r", UNFINISHED_FIELD);
+    for key in 0..=255 {
+        let judged = |form: &[u8], rooms: &[u8]| {
+            let mut after = form.to_vec();
+            let number = second::desk_key(rooms, &mut after, key);
+            assert!(number == DONE || after == form);
+            number
+        };
+        assert_eq!(judged(&last[..ENTRY_FORM - 1], &rooms), ROOM);
+        assert_eq!(judged(&last, &rooms[1..]), ROOM);
+        assert_eq!(
+            judged(&full, &[&rooms[..ROOM_SIZE], &unsound].concat()),
+            FORM
+        );
+        let closed = [&[1, 1], &last[2..]].concat();
+        assert_eq!(judged(&closed, &rooms), CLOSED);
+        assert_eq!(judged(&closed, &unsound), FORM);
+        assert_eq!(judged(&[&[0, 0], &full[2..]].concat(), &[]), FORM);
+    }
 }
