@@ -1,4 +1,4 @@
-//! Cases drawn from a seed: case N of a seed is always the same one.
+//! Cases drawn from a seed: case N of a seed is always the same one. Those of the entry desk are numbered by themselves.
 
 use second::draw::{bound_pair, Alphabet, Draw, FORM_DAMAGES, LIMITS, ROOM_DAMAGES};
 use second::form;
@@ -8,10 +8,17 @@ use second::smallest::smallest;
 
 use crate::case::{form_length, Case, Operation};
 
-/// The case of a seed and a number.
-pub fn case(seed: u64, number: u64) -> Case {
+pub mod desk;
+
+/// The source of a seed and a number.
+fn source(seed: u64, number: u64) -> Draw {
     let first = Draw::new(seed).bits();
-    let draw = &mut Draw::new(Draw::new(first ^ number).bits());
+    Draw::new(Draw::new(first ^ number).bits())
+}
+
+/// The case of a seed and a number, of all operations but the desk's.
+pub fn case(seed: u64, number: u64) -> Case {
+    let draw = &mut source(seed, number);
     match draw.below(16) {
         0..=4 => {
             let text = pattern(draw);
@@ -41,6 +48,7 @@ fn lent(draw: &mut Draw, operation: Operation, reads: Vec<Vec<u8>>, exact: usize
     Case {
         operation,
         reads,
+        number: 0,
         output: content(draw, output),
         bytes: content(draw, bytes),
         words: content(draw, words)
@@ -177,13 +185,7 @@ fn matching(draw: &mut Draw) -> Case {
         }
         _ => draw.walk(&machine, 24),
     };
-    Case {
-        operation: Operation::Match,
-        reads: vec![spoilt(draw, &machine), text],
-        output: Vec::new(),
-        bytes: Vec::new(),
-        words: Vec::new(),
-    }
+    Case::new(Operation::Match, &[&spoilt(draw, &machine), &text])
 }
 
 /// Two machines: any two, two of the same strings, two that differ in one cell or mark, a pattern and a changed one, or two at the bound.

@@ -1,7 +1,7 @@
 //! The library and the independent second program side by side.
 //!
 //! A [`Case`] is an operation with all that is lent to it. [`both`] runs it on each side, on equal copies, and compares the answer and every byte of every
-//! buffer afterwards: tails, inputs, and the bytes around what was lent.
+//! buffer afterwards: tails, inputs, and the bytes around what was lent. At the entry desk a case may follow from the one before it, key by key.
 //!
 //! | Cases | From |
 //! |---|---|

@@ -6,7 +6,7 @@ use std::sync::atomic::{AtomicU64, Ordering};
 use std::thread;
 
 use crate::case::{Case, Operation, OPERATIONS};
-use crate::run::both;
+use crate::run::{both, Outcome};
 
 /// So many cases are taken at a time.
 const BATCH: u64 = 64;
@@ -22,18 +22,34 @@ pub struct Tally {
 }
 
 impl Tally {
-    /// Runs one case and counts its answer.
-    pub fn run(&mut self, name: &dyn fmt::Display, case: &Case) {
+    /// Runs one case and counts its answer: the outcome, if both sides share it.
+    pub fn run(&mut self, name: &dyn fmt::Display, case: &Case) -> Option<Outcome> {
         self.cases += 1;
         match both(case) {
             Ok(outcome) => {
                 let answer = (case.operation, outcome.answer.0);
                 *self.answers.entry(answer).or_insert(0) += 1;
+                Some(outcome)
             }
-            Err(difference) if self.differences.len() < KEPT => {
-                self.differences.push(format!("{name}: {difference}"));
+            Err(difference) => {
+                if self.differences.len() < KEPT {
+                    self.differences.push(format!("{name}: {difference}"));
+                }
+                None
             }
-            Err(_) => {}
+        }
+    }
+
+    /// Runs the opening of a form, and then each of the keys on the form as it was left, up to the first difference.
+    pub fn type_keys(&mut self, name: &dyn fmt::Display, opening: Case, keys: &[u8]) {
+        let mut case = opening;
+        let mut outcome = self.run(name, &case);
+        for (&key, number) in keys.iter().zip(1..) {
+            match outcome {
+                Some(before) => case = case.next(before.output, key),
+                None => return,
+            }
+            outcome = self.run(&format_args!("{name}, key {number}"), &case);
         }
     }
 
@@ -55,10 +71,11 @@ impl Tally {
         );
     }
 
-    /// The answers that were never given.
-    pub fn missing(&self) -> Vec<(Operation, u8)> {
+    /// The answers that were never given, of the operations that are chosen.
+    pub fn missing(&self, chosen: impl Fn(Operation) -> bool) -> Vec<(Operation, u8)> {
         OPERATIONS
             .into_iter()
+            .filter(|&operation| chosen(operation))
             .flat_map(|operation| {
                 operation
                     .numbers()
@@ -91,6 +108,13 @@ impl fmt::Display for Tally {
 
 /// Runs the cases of the numbers below a count.
 pub fn run(count: u64, name: &str, case: impl Fn(u64) -> Case + Sync) -> Tally {
+    each(count, |tally, number| {
+        tally.run(&format_args!("{name}, case {number}"), &case(number));
+    })
+}
+
+/// Does something with a tally for each of the numbers below a count.
+pub fn each(count: u64, task: impl Fn(&mut Tally, u64) + Sync) -> Tally {
     let next = AtomicU64::new(0);
     let threads = thread::available_parallelism().map_or(1, usize::from);
     let worker = || {
@@ -101,7 +125,7 @@ pub fn run(count: u64, name: &str, case: impl Fn(u64) -> Case + Sync) -> Tally {
                 return tally;
             }
             for number in from..count.min(from + BATCH) {
-                tally.run(&format_args!("{name}, case {number}"), &case(number));
+                task(&mut tally, number);
             }
         }
     };

@@ -6,8 +6,10 @@ use crate::case::{form_length, Case, Operation};
 use crate::run::{both, Outcome};
 use crate::written::{hex, read};
 
+mod desk;
+
 /// The files of rows, each with its runner.
-pub const FILES: [File; 8] = [
+pub const FILES: [File; 11] = [
     ("patterns", include_str!("../rows/patterns.txt"), pattern),
     ("machines", include_str!("../rows/machines.txt"), machine),
     ("matches", include_str!("../rows/matches.txt"), matched),
@@ -23,6 +25,17 @@ pub const FILES: [File; 8] = [
         "positions",
         include_str!("../rows/positions.txt"),
         positions,
+    ),
+    ("desks", include_str!("../rows/desks.txt"), desk::typed),
+    (
+        "openings",
+        include_str!("../rows/openings.txt"),
+        desk::opened,
+    ),
+    (
+        "entries",
+        include_str!("../rows/entries.txt"),
+        desk::changed,
     ),
 ];
 
@@ -181,11 +194,7 @@ fn law(row: &[&str]) -> Result<(), String> {
 fn room(row: &[&str]) -> Result<(), String> {
     let whole = compiled(row[0])?;
     let mut changed = whole.clone();
-    for change in row[1].split(',').filter(|&change| change != "-") {
-        let (at, value) = change.split_once('=').ok_or("a change is AT=VALUE")?;
-        let at: usize = at.parse().map_err(|_| "not a place")?;
-        changed[at] = value.parse().map_err(|_| "not a byte")?;
-    }
+    change(&mut changed, row[1])?;
     let number =
         |operation, reads: &[&[u8]]| outcome(operation, reads).map(|outcome| outcome.answer.0);
     let minimise = number(Operation::Minimise, &[&changed])?;
@@ -196,6 +205,16 @@ fn room(row: &[&str]) -> Result<(), String> {
         format!("minimise {minimise} match {matching} compare {compare} pack {pack}"),
         &row[3..],
     )
+}
+
+/// Makes the changes `AT=VALUE` between commas; `-` is none.
+fn change(bytes: &mut [u8], changes: &str) -> Result<(), String> {
+    for change in changes.split(',').filter(|&change| change != "-") {
+        let (at, value) = change.split_once('=').ok_or("a change is AT=VALUE")?;
+        let at: usize = at.parse().map_err(|_| "not a place")?;
+        bytes[at] = value.parse().map_err(|_| "not a byte")?;
+    }
+    Ok(())
 }
 
 /// `PATTERN CHANGE -> NUMBER`: unpacking the pattern's form after a change: `whole`, `flip:BIT`, `cut:BYTES`, `more:HEX`.

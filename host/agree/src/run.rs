@@ -34,6 +34,8 @@ struct Side {
     compare: Compare,
     pack: Compile,
     unpack: Write,
+    desk_open: fn(usize, &[u8], &mut [u8]) -> u8,
+    desk_key: fn(&[u8], &mut [u8], u8) -> u8,
 }
 
 const LIBRARY: Side = Side {
@@ -43,6 +45,8 @@ const LIBRARY: Side = Side {
     compare: palgondur::raw::compare,
     pack: palgondur::raw::pack,
     unpack: palgondur::raw::unpack,
+    desk_open: palgondur::raw::desk_open,
+    desk_key: palgondur::raw::desk_key,
 };
 
 const SECOND: Side = Side {
@@ -52,6 +56,8 @@ const SECOND: Side = Side {
     compare: second::compare,
     pack: second::pack,
     unpack: second::unpack,
+    desk_open: second::desk_open,
+    desk_key: second::desk_key,
 };
 
 /// How many bytes, or words, stand on either side of what is lent.
@@ -109,20 +115,22 @@ impl Lent {
         }
     }
 
-    /// Runs the operation of one side on what is lent.
-    fn run(&mut self, operation: Operation, side: &Side) -> Answer {
+    /// Runs the case's operation of one side on what is lent.
+    fn run(&mut self, case: &Case, side: &Side) -> Answer {
         let mut reads = self.reads.iter_mut().map(|read| &*read.lent());
         let (read, other) = (reads.next().unwrap_or(&[]), reads.next().unwrap_or(&[]));
         let (output, bytes) = (self.output.lent(), self.bytes.lent());
         let words = self.words.lent();
         let placed = |(number, place)| (number, place, 0);
-        match operation {
+        match case.operation {
             Operation::Compile => placed((side.compile)(read, output, bytes, words)),
             Operation::Minimise => ((side.minimise)(read, output, bytes, words), 0, 0),
             Operation::Match => placed((side.match_text)(read, other)),
             Operation::Compare => (side.compare)(read, other, output, bytes, words),
             Operation::Pack => placed((side.pack)(read, output, bytes, words)),
             Operation::Unpack => ((side.unpack)(read, output, bytes, words), 0, 0),
+            Operation::DeskOpen => ((side.desk_open)(case.number, read, output), 0, 0),
+            Operation::DeskKey => ((side.desk_key)(read, output, case.number as u8), 0, 0),
         }
     }
 
@@ -142,10 +150,7 @@ impl Lent {
 /// Runs a case on both sides: the outcome that they share, or their difference.
 pub fn both(case: &Case) -> Result<Outcome, Box<Difference>> {
     let (mut library, mut second) = (Lent::new(case), Lent::new(case));
-    let answers = (
-        library.run(case.operation, &LIBRARY),
-        second.run(case.operation, &SECOND),
-    );
+    let answers = (library.run(case, &LIBRARY), second.run(case, &SECOND));
     if answers.0 == answers.1 && library == second {
         let (answer, output) = (answers.0, second.output.lent().to_vec());
         return Ok(Outcome { answer, output });

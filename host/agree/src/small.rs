@@ -1,5 +1,8 @@
 //! All small cases of a kind.
 
+use std::collections::HashSet;
+
+use second::desk::{Desk, BACK, ENTER};
 use second::exhaustive::{patterns, strings};
 use second::limits;
 use second::machine::Machine;
@@ -71,6 +74,62 @@ pub fn buffers(operation: Operation, reads: &[&[u8]], exact: usize) -> Vec<Case>
             break;
         }
         cases.push(case);
+    }
+    cases
+}
+
+/// All forms that up to so many of the keys lead to, each once.
+pub fn forms(count: usize, rooms: &[u8], keys: &[u8], most: usize) -> Vec<Vec<u8>> {
+    let mut desks = vec![Desk::open(count, rooms).expect("sound rooms")];
+    let mut known = HashSet::from([desks[0].form()]);
+    let mut from = 0;
+    for _ in 0..most {
+        let to = desks.len();
+        for at in from..to {
+            for &key in keys {
+                let mut desk = desks[at].clone();
+                desk.key(key);
+                if known.insert(desk.form()) {
+                    desks.push(desk);
+                }
+            }
+        }
+        from = to;
+    }
+    desks.iter().map(Desk::form).collect()
+}
+
+/// All forms that differ from a form in one byte: any other value before the texts, a few others in the texts.
+pub fn changed(form: &[u8]) -> impl Iterator<Item = Vec<u8>> + '_ {
+    let values = |at: usize| match at {
+        0..=17 => (0..=255).collect(),
+        _ => vec![0, BACK, ENTER, b'a'],
+    };
+    let changes =
+        (0..form.len()).flat_map(move |at| values(at).into_iter().map(move |to| (at, to)));
+    changes.filter(|&(at, to)| form[at] != to).map(|(at, to)| {
+        let mut form = form.to_vec();
+        form[at] = to;
+        form
+    })
+}
+
+/// A case of the desk with its form of every length up to a few more bytes than it needs, and then with its rooms of every length about a whole number of them.
+pub fn desk_lengths(case: &Case) -> Vec<Case> {
+    let mut cases = Vec::new();
+    for length in 0..=limits::ENTRY_FORM + 4 {
+        let mut other = case.clone();
+        other.output.resize(length, 0xb7);
+        cases.push(other);
+    }
+    let rooms = case.reads[0].len() / limits::ROOM;
+    for length in (0..=rooms + 1).flat_map(|rooms| {
+        let exact = rooms * limits::ROOM;
+        exact.saturating_sub(3)..=exact + 3
+    }) {
+        let mut other = case.clone();
+        other.reads[0].resize(length, 0xb7);
+        cases.push(other);
     }
     cases
 }

@@ -2,6 +2,7 @@
 //!
 //! The first byte says which buffers are short or longer and what is in them. A room is spelt by a pattern or by a table, and then by a few changed bytes.
 
+use second::desk::Desk;
 use second::form;
 use second::limits;
 use second::machine::Machine;
@@ -19,6 +20,7 @@ pub fn case(operation: Operation, bytes: &[u8]) -> Case {
         Operation::Match => vec![spelt.room(), spelt.rest.to_vec()],
         Operation::Compare => vec![spelt.room(), spelt.room()],
         Operation::Unpack => vec![spelt.form()],
+        Operation::DeskOpen | Operation::DeskKey => return spelt.desk(operation, buffers),
     };
     let reads: Vec<&[u8]> = reads.iter().map(|read| &read[..]).collect();
     let mut case = Case::new(operation, &reads);
@@ -121,6 +123,53 @@ impl Spelt<'_> {
             2 => form.push(self.byte()),
             3 => form.truncate(form.len() - 1),
             _ => {}
+        }
+        form
+    }
+}
+
+/// The entry desk.
+impl Spelt<'_> {
+    /// Opening, or a key on a form that was typed and then changed in up to three bytes; the rooms of up to four fields.
+    fn desk(&mut self, operation: Operation, buffers: u8) -> Case {
+        let fields = usize::from(buffers >> 6) + 1;
+        let mut rooms = Vec::new();
+        for at in 1..=fields {
+            rooms.extend(self.room());
+            rooms.resize(at * limits::ROOM, 0);
+        }
+        let count = match self.byte() {
+            0 => fields,
+            other => usize::from(other),
+        };
+        let mut form = self.typed(fields, &rooms);
+        rooms.resize(length(rooms.len(), buffers), 0xe1);
+        form.resize(length(form.len(), buffers >> 2), 0x1e);
+        match operation {
+            Operation::DeskOpen => Case::opening(count, &rooms, &form),
+            _ => Case::pressing(&rooms, &form, count as u8),
+        }
+    }
+
+    /// A form that was typed, if it can be opened, with up to three bytes changed.
+    fn typed(&mut self, fields: usize, rooms: &[u8]) -> Vec<u8> {
+        let changes = self.below(4);
+        let changes: Vec<(usize, u8)> = (0..changes)
+            .map(|_| (self.below(256) * 256 + self.below(256), self.byte()))
+            .collect();
+        let mut form = match Desk::open(fields, rooms) {
+            Some(mut desk) => {
+                self.rest.iter().for_each(|&key| {
+                    desk.key(key);
+                });
+                desk.form()
+            }
+            None => vec![0; limits::ENTRY_FORM],
+        };
+        for (at, value) in changes {
+            // Half of the places are before the texts.
+            let most = [limits::ENTRY_FORM, limits::TEXT_AT][at % 2];
+            form[at / 2 % most] = value;
         }
         form
     }

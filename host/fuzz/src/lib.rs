@@ -41,3 +41,5 @@ target!(fuzz_match, Match);
 target!(fuzz_compare, Compare);
 target!(fuzz_pack, Pack);
 target!(fuzz_unpack, Unpack);
+target!(fuzz_desk_open, DeskOpen);
+target!(fuzz_desk_key, DeskKey);

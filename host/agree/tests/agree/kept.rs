@@ -12,9 +12,9 @@ use crate::say;
 fn kept_inputs() {
     let corpus = Path::new(env!("CARGO_MANIFEST_DIR")).join("../fuzz/corpus");
     let mut tally = Tally::default();
-    for folder in OPERATIONS {
-        let files = fs::read_dir(corpus.join(folder.name())).expect("a folder for each operation");
-        for file in files {
+    for folder in fs::read_dir(corpus).expect("a corpus") {
+        let folder = folder.expect("a folder").path();
+        for file in fs::read_dir(folder).expect("a folder of files") {
             let path = file.expect("a file").path();
             let bytes = fs::read(&path).expect("a file that can be read");
             for operation in OPERATIONS {

@@ -1,7 +1,8 @@
-//! The library against the independent second program: rows, drawn cases, all small cases, and what the fuzzer kept.
+//! The library against the independent second program: rows, drawn cases, all small cases, the entry desk, and what the fuzzer kept.
 //!
-//! AGREE_SEED names another seed, AGREE_CASES another number of drawn cases.
+//! AGREE_SEED names another seed, AGREE_CASES another number of drawn cases, AGREE_DESKS another number of drawn desks.
 
+mod desk;
 mod drawn;
 mod kept;
 mod rows;

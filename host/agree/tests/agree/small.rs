@@ -11,7 +11,7 @@ use second::limits;
 use crate::say;
 
 /// Runs all cases, says how many of what they were, and fails if one differs.
-fn all(what: &str, cases: impl Iterator<Item = Case>) {
+pub fn all(what: &str, cases: impl Iterator<Item = Case>) {
     let mut tally = Tally::default();
     for (number, case) in cases.enumerate() {
         tally.run(&format_args!("{what}, case {number}"), &case);
@@ -20,7 +20,8 @@ fn all(what: &str, cases: impl Iterator<Item = Case>) {
     tally.check();
 }
 
-fn room(pattern: &[u8]) -> Vec<u8> {
+/// The room of a pattern that is taken.
+pub fn room(pattern: &[u8]) -> Vec<u8> {
     let outcome = both(&Case::new(Operation::Compile, &[pattern])).expect("one outcome");
     assert_eq!(outcome.answer, (0, 0, 0));
     outcome.output
