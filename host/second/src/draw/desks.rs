@@ -69,6 +69,7 @@ impl Draw {
             Typing::Wild => return self.wild_key(),
         };
         match turn {
+            _ if text.len() == TEXT && self.once_in(4) => ENTER,
             0 | 1 => BACK,
             2 => ENTER,
             3 if !dead.is_empty() => self.pick(&dead),
