@@ -2,8 +2,7 @@
 -- keys that lead there, since no prefix of a text is Dead.
 --   Literals t: no byte of t is a key
 --   Good rooms n e: closed texts are accepted, the open one is empty or not Dead, the later ones are empty; all are short, of bytes, and have no keys in them
---   eqb-same, eqb-not: the test of two numbers that are equal, or not
---   retyped-here, retyped-there: the texts of an entry with another text in its open field
+--   retyped-here, retyped-there, either: the texts of an entry with another text in its open field
 --   good-after: a key keeps it
 --   gives-good: what keys give is good
 --   good-gives: keys give what is good
@@ -15,13 +14,13 @@ use mathlib.Core.List.{List, [], _∷_, _++_}
 use native.Mathlib.Omega.{arith}
 use native.Mathlib.Numerals.{add-one}
 use borrow.Author.Count.{below-more}
-use borrow.Author.Tests.{eqb-true}
+use borrow.Author.Tests.{ne-eqb}
 use lib.Dec.{eqb}
 use lib.ListN.{length, getD, take, length-append, length-take, List·getD-append}
 use lib.Seq.{take-nil, take-length, take-suc, getD-take, getD-append-seam}
 use Rattle.scope.specs.Bytes.{Bytes}
 use Rattle.scope.specs.Limits.{byteValues}
-use Rattle.scope.proofs.Tests.{which, split, equals}
+use Rattle.scope.proofs.Tests.{split, equals}
 use Rattle.scope.proofs.Run.{bytes-append}
 use Rattle.desk.specs.Entry.{Entry, nothing, openText, BACK, CLOSE, Literal, retyped}
 use Rattle.desk.specs.Form.{textLimit}
@@ -46,12 +45,8 @@ pub record Good (rooms : List ℕ) (n : ℕ) (e : Entry) : Type 0 where
 -- ---- an entry with another text in its open field
 
 -- equal numbers
-pub eqb-same : (a : ℕ) → eqb a a ≡ true
+eqb-same : (a : ℕ) → eqb a a ≡ true
 eqb-same a = equals a a .full refl
-
--- other numbers
-pub eqb-not : (a b : ℕ) → (a ≡ b → ⊥) → eqb a b ≡ false
-eqb-not a b n = elim (which (eqb a b)) [ inl e ↦ absurd (n (eqb-true a b e)) | inr e ↦ e ]
 
 -- the open field has that text
 pub retyped-here : (e : Entry) (t : List ℕ) → retyped e t .text (e .closed) ≡ t
@@ -59,10 +54,10 @@ retyped-here e t = rw (eqb-same (e .closed))
 
 -- the others have what they had
 pub retyped-there : (e : Entry) (t : List ℕ) (f : ℕ) → (f ≡ e .closed → ⊥) → retyped e t .text f ≡ e .text f
-retyped-there e t f n = rw (eqb-not f (e .closed) n)
+retyped-there e t f n = rw (ne-eqb f (e .closed) n)
 
 -- what holds of both texts holds of the one that a field has
-either : (P : List ℕ → Type 0) (b : Bool) (s t : List ℕ) → P s → P t → P (cond b s t)
+pub either : (P : List ℕ → Type 0) (b : Bool) (s t : List ℕ) → P s → P t → P (cond b s t)
 either P true s t g h = g
 either P false s t g h = h
 
@@ -129,7 +124,7 @@ module _ {rooms : List ℕ} {n : ℕ} where
   good-after g b (dead-byte h k l d) = g
   good-after {e} {key} g b (byte-taken h k l d) =
       let t = openText e in
-      rw (eqb-not key BACK (k .0), eqb-not key CLOSE (k .1)) (good-retyped e g h (t ++ (key ∷ [])) (inr d) (omega (arith, length-append t (key ∷ [])))
+      rw (ne-eqb key BACK (k .0), ne-eqb key CLOSE (k .1)) (good-retyped e g h (t ++ (key ∷ [])) (inr d) (omega (arith, length-append t (key ∷ [])))
       (bytes-append t (key ∷ []) (g .bytes (e .closed)) (b, tt)) (literals-more t key (g .literal (e .closed)) k))
 
   -- where nothing is entered it holds
@@ -183,7 +178,7 @@ module _ {rooms : List ℕ} {n : ℕ} {e : Entry} (g : Good rooms n e) where
       let now : Entry = record { closed = c; text = m .texts } in
       record {
         texts = retyped now new .text;
-        gives = rw (eqb-not key BACK (lit .0), eqb-not key CLOSE (lit .1)) at (pressed (m .gives) (bytes-at t (g .bytes c) k) (byte-taken h lit size kept));
+        gives = rw (ne-eqb key BACK (lit .0), ne-eqb key CLOSE (lit .1)) at (pressed (m .gives) (bytes-at t (g .bytes c) k) (byte-taken h lit size kept));
         before = λ f j. retyped-there now new f (λ z. omega arith) ∙ m .before f j;
         here = retyped-here now new ∙ rw (m .here) (sym one);
         later = λ f j. retyped-there now new f (λ z. omega arith) ∙ m .later f j;

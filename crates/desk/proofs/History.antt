@@ -5,7 +5,6 @@
 --   no-trace: the accepted keys alone lead to the same form
 use Prim.Native.Nat.{ℕ, _-_, _≤_, _<_}
 use mathlib.Core.Path.{_≡_, _∙_}
-use mathlib.Core.Logic.{inl, inr}
 use mathlib.Core.List.{List, [], _∷_, _++_}
 use native.Mathlib.Omega.{arith}
 use borrow.Author.Tests.{ne-eqb}
@@ -14,13 +13,13 @@ use lib.ListN.{length, take, length-append, length-take}
 use Rattle.scope.specs.Answers.{DONE}
 use Rattle.scope.specs.Buffers.{TailKept}
 use Rattle.scope.specs.Machine.{walk}
-use Rattle.scope.proofs.Tests.{which}
 use Rattle.desk.specs.Entry.{Entry, nothing, openText, BACK, CLOSE, retyped, typed, history}
 use Rattle.desk.specs.Form.{fieldLimit, textLimit, formBytes, closedOf, textOf, Shows}
 use Rattle.desk.specs.Key.{Judges, taken-back, field-closed, byte-taken}
 use Rattle.desk.specs.Open.{Opens, opened}
 use Rattle.desk.specs.Press.{Presses, answered}
-use Rattle.desk.specs.History.{Pressed, none, accepted, refused}
+use Rattle.desk.specs.History.{KeysPressed, none, accepted, refused}
+use Rattle.desk.proofs.Good.{either}
 use Rattle.desk.proofs.Shown.{text-shown}
 use Rattle.desk.proofs.One.{shows-moved}
 use Rattle.desk.proofs.Presses.{judges-moved, after-one, given-one, refused-stays}
@@ -33,7 +32,7 @@ Short e = (f : ℕ) → length (e .text f) ≤ textLimit
 
 -- another text in the open field
 short-retyped : (e : Entry) (t : List ℕ) → Short e → length t ≤ textLimit → Short (retyped e t)
-short-retyped e t s h f = elim (which (eqb f (e .closed))) [ inl b ↦ rw b h | inr b ↦ rw b (s f) ]
+short-retyped e t s h f = either (λ u. length u ≤ textLimit) (eqb f (e .closed)) t (e .text f) h (s f)
 
 -- an accepted key
 short-typed : {rooms : List ℕ} {n : ℕ} {e : Entry} {key : ℕ} → Judges rooms n e key DONE → Short e → Short (typed e key)
@@ -68,12 +67,12 @@ module _ {rooms : List ℕ} where
       }
 
   -- any keys
-  holds-keys : {n : ℕ} {old form form′ keys kept : List ℕ} {e : Entry} → Pressed rooms form keys kept form′ → Holds n old form e → Holds n old form′ (walk typed e kept)
+  holds-keys : {n : ℕ} {old form form′ keys kept : List ℕ} {e : Entry} → KeysPressed rooms form keys kept form′ → Holds n old form e → Holds n old form′ (walk typed e kept)
   holds-keys none h = h
   holds-keys (accepted p q) h = holds-keys q (holds-key p h)
   holds-keys (refused p d q) h = holds-keys q (rw (refused-stays p d) h)
 
-  module _ {n : ℕ} {form form₁ form₂ keys kept : List ℕ} (o : Opens n rooms form form₁ DONE) (p : Pressed rooms form₁ keys kept form₂) where
+  module _ {n : ℕ} {form form₁ form₂ keys kept : List ℕ} (o : Opens n rooms form form₁ DONE) (p : KeysPressed rooms form₁ keys kept form₂) where
     -- the form is that of the history
     pub history-shows : Shows n (history kept) form₂ × TailKept formBytes form form₂
     history-shows = let h = holds-keys p (holds-none o) in (h .shows, h .tail)
@@ -86,7 +85,7 @@ module _ {rooms : List ℕ} where
         long (opened f l s e k) h = omega (arith, l .form-long, h .tail .size)
 
   -- a refused key leaves no trace
-  pub no-trace : {form form′ keys kept : List ℕ} → Pressed rooms form keys kept form′ → Pressed rooms form kept kept form′
+  pub no-trace : {form form′ keys kept : List ℕ} → KeysPressed rooms form keys kept form′ → KeysPressed rooms form kept kept form′
   no-trace none = none
   no-trace (accepted p q) = accepted p (no-trace q)
   no-trace (refused p d q) = rw (refused-stays p d) at (no-trace q)

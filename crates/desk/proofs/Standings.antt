@@ -5,11 +5,11 @@
 use Prim.Native.Nat.{ℕ, _≤_, _<_}
 use mathlib.Core.Path.{_≡_, refl, sym, ap, _∙_, subst}
 use mathlib.Core.Logic.{_⊎_, inl, inr, ⊎-elim}
-use mathlib.Core.List.{List, []}
+use mathlib.Core.List.{List}
 use native.Mathlib.Omega.{arith}
 use lib.ListN.{length, take, drop, take-append-drop}
 use lib.Seq.{length-take-le, take-append-le}
-use Rattle.scope.specs.Answers.{ROOM, FORM, ACCEPTED, DEAD, matchedNumber, matchedPlace}
+use Rattle.scope.specs.Answers.{ROOM, FORM, DEAD, matchedNumber, matchedPlace}
 use Rattle.scope.specs.Answers as answers
 use Rattle.scope.specs.Bytes.{Bytes}
 use Rattle.scope.specs.Match.{Matches, no-room, no-form, accepted, dead, unfinished}

@@ -2,12 +2,12 @@
 --   plain-is, unplain, plain-zero: the test of one field
 --   empty-are, lengths-left, texts-left: the test that fields are empty
 use Prim.Native.Nat.{ℕ, _+_, _*_, _-_, _≤_, _<_}
-use mathlib.Core.Path.{_≡_, refl}
+use mathlib.Core.Path.{_≡_}
 use mathlib.Core.Bool.{Bool}
 use mathlib.Core.List.{List}
 use native.Mathlib.Omega.{arith}
 use lib.ListN.{getD}
-use Rattle.slices.specs.Parts.{Decides, AtMost, Greatest}
+use Rattle.slices.specs.Parts.{Decides, Greatest}
 use Rattle.desk.specs.Entry.{Literal}
 use Rattle.desk.specs.Form.{fieldLimit, textLimit, lengthsAt, textsAt, formBytes, lengthOf, byteOf}
 use Rattle.desk.specs.Stand.{NoKeys}

@@ -1,5 +1,5 @@
 -- A sequence of keys on a form.
---   Pressed rooms form keys accepted form′: the keys lead from form to form′, and those in `accepted` were answered Done
+--   KeysPressed rooms form keys accepted form′: the keys lead from form to form′, and those in `accepted` were answered Done
 use Prim.Native.Nat.{ℕ}
 use mathlib.Core.Path.{_≡_}
 use mathlib.Core.List.{List, [], _∷_}
@@ -7,9 +7,9 @@ use Rattle.scope.specs.Answers.{DONE}
 use Rattle.desk.specs.Press.{Presses}
 
 module _ (rooms : List ℕ) where
-  pub data Pressed : List ℕ → List ℕ → List ℕ → List ℕ → Type 0 where
-    none : {form : List ℕ} → Pressed form [] [] form
-    accepted : {form form₁ form₂ keys kept : List ℕ} {key : ℕ} → Presses rooms form form₁ key DONE → Pressed form₁ keys kept form₂
-        → Pressed form (key ∷ keys) (key ∷ kept) form₂
+  pub data KeysPressed : List ℕ → List ℕ → List ℕ → List ℕ → Type 0 where
+    none : {form : List ℕ} → KeysPressed form [] [] form
+    accepted : {form form₁ form₂ keys kept : List ℕ} {key : ℕ} → Presses rooms form form₁ key DONE → KeysPressed form₁ keys kept form₂
+        → KeysPressed form (key ∷ keys) (key ∷ kept) form₂
     refused : {form form₁ form₂ keys kept : List ℕ} {key number : ℕ} → Presses rooms form form₁ key number → (number ≡ DONE → ⊥)
-        → Pressed form₁ keys kept form₂ → Pressed form (key ∷ keys) kept form₂
+        → KeysPressed form₁ keys kept form₂ → KeysPressed form (key ∷ keys) kept form₂

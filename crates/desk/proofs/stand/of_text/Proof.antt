@@ -1,5 +1,4 @@
 -- The parts that are matched are the room and the text of the field.
-use native.Mathlib.Omega.{arith}
 use borrow.Author.Needs.{needs}
 use Rattle.desk.proofs.Laws.{room-part, text-part}
 use Rattle.desk.proofs.stand.of_text.Statement.{statement}

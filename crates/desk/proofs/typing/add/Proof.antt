@@ -1,9 +1,9 @@
 -- A field that is full is refused if keys lead to it; of another each standing with the byte is one law.
-use Prim.Native.Nat.{_+_, _<_}
+use Prim.Native.Nat.{_+_}
 use native.Mathlib.Omega.{arith}
 use borrow.Author.Needs.{needs}
 use borrow.Author.Tests.{not-true, not-false}
-use Rattle.desk.specs.Form.{textLimit, lengthsAt, lengthOf}
+use Rattle.desk.specs.Form.{lengthsAt}
 use Rattle.desk.proofs.Standings.{stood}
 use Rattle.desk.proofs.Keys.{inside, presses-lost, presses-long, types-accepted, types-unfinished, types-dead, types-lost}
 use Rattle.desk.proofs.typing.add.Statement.{statement}

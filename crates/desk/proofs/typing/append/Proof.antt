@@ -1,18 +1,13 @@
 -- The byte is stored after the text, and the length is one more.
-use Prim.Native.Nat.{_+_, _*_}
 use native.Mathlib.Omega.{arith}
 use borrow.Author.Needs.{needs}
 use lib.ListN.{length-set}
-use Rattle.desk.specs.Form.{textLimit, textsAt, lengthOf}
 use Rattle.desk.proofs.Retyping.{retyped-more}
 use Rattle.desk.proofs.typing.append.Statement.{statement}
 use Rattle.desk.proofs.typing.append.Tie as tie
 
 slice-write-form-2 : tie.Need-slice-write-form-2
-slice-write-form-2 c =
-    let a = c .before .args in
-    let form = a .form .now in
-    omega (arith, c .before .pre .1, length-set form (textsAt + a .f * textLimit + lengthOf form (a .f)) (a .key))
+slice-write-form-2 c = rw length-set (omega (arith, c .before .pre .1))
 
 returns : tie.Need-returns
 returns c = let p = c .before .pre in retyped-more (p .0) (p .1) (p .2) (c .before .args .key) (p .3)

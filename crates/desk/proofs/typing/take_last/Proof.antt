@@ -1,18 +1,13 @@
 -- The last byte becomes zero, and the length one less; where there is none, nothing changes.
-use Prim.Native.Nat.{_+_, _*_, _-_}
 use native.Mathlib.Omega.{arith}
 use borrow.Author.Needs.{needs}
 use lib.ListN.{length-set}
-use Rattle.desk.specs.Form.{textLimit, textsAt, lengthOf}
 use Rattle.desk.proofs.Retyping.{retyped-last, retyped-none}
 use Rattle.desk.proofs.typing.take_last.Statement.{statement}
 use Rattle.desk.proofs.typing.take_last.Tie as tie
 
 slice-write-form-2 : tie.Need-slice-write-form-2
-slice-write-form-2 c =
-    let a = c .before .before .args in
-    let form = a .form .now in
-    omega (arith, c .before .before .pre .1, length-set form (textsAt + a .f * textLimit + (lengthOf form (a .f) - 1)) 0)
+slice-write-form-2 c = rw length-set (omega (arith, c .before .before .pre .1))
 
 returns : tie.Need-returns
 returns c = let p = c .before .before .pre in retyped-last (p .0) (p .1) (p .2) (c .if1 .taken)
