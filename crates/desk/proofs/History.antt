@@ -3,6 +3,7 @@
 --   history-shows: after keys from an opened form, the form is that of the history of the accepted keys
 --   history-texts: so each text, and the number of closed fields, is what that history gives
 --   no-trace: the accepted keys alone lead to the same form
+--   never-form: after keys from an opened form no key is answered by ROOM or FORM
 use Prim.Native.Nat.{ℕ, _-_, _≤_, _<_}
 use mathlib.Core.Path.{_≡_, _∙_}
 use mathlib.Core.List.{List, [], _∷_, _++_}
@@ -10,14 +11,17 @@ use native.Mathlib.Omega.{arith}
 use borrow.Author.Tests.{ne-eqb}
 use lib.Dec.{eqb}
 use lib.ListN.{length, take, length-append, length-take}
-use Rattle.scope.specs.Answers.{DONE}
+use Rattle.scope.specs.Answers.{DONE, ROOM, FORM}
 use Rattle.scope.specs.Buffers.{TailKept}
+use Rattle.scope.specs.Bytes.{Bytes}
+use Rattle.scope.specs.Limits.{byteValues}
 use Rattle.scope.specs.Machine.{walk}
 use Rattle.desk.specs.Entry.{Entry, nothing, openText, BACK, CLOSE, retyped, typed, history}
-use Rattle.desk.specs.Form.{fieldLimit, textLimit, formBytes, closedOf, textOf, Shows}
-use Rattle.desk.specs.Key.{Judges, taken-back, field-closed, byte-taken}
-use Rattle.desk.specs.Open.{Opens, opened}
-use Rattle.desk.specs.Press.{Presses, answered}
+use Rattle.desk.specs.Form.{fieldLimit, textLimit, formBytes, countOf, closedOf, textOf, Shows}
+use Rattle.desk.specs.Key.{Judges, all-closed, taken-back, field-closed, not-finished, too-long, dead-byte, byte-taken, after}
+use Rattle.desk.specs.Key as key
+use Rattle.desk.specs.Open.{DeskLent, Opens, opened}
+use Rattle.desk.specs.Press.{Ready, Presses, no-room, no-form, answered}
 use Rattle.desk.specs.History.{KeysPressed, none, accepted, refused}
 use Rattle.desk.proofs.Good.{either}
 use Rattle.desk.proofs.Shown.{text-shown}
@@ -89,3 +93,55 @@ module _ {rooms : List ℕ} where
   no-trace none = none
   no-trace (accepted p q) = accepted p (no-trace q)
   no-trace (refused p d q) = rw (refused-stays p d) at (no-trace q)
+
+-- ---- what is never answered
+
+-- a key on a form that keys can give has an answer of its own
+judges-own : {rooms : List ℕ} {n : ℕ} {e : Entry} {key number : ℕ} → Judges rooms n e key number → (number ≡ ROOM → ⊥) × (number ≡ FORM → ⊥)
+judges-own (all-closed h) = (λ z. omega arith, λ z. omega arith)
+judges-own (taken-back h k) = (λ z. omega arith, λ z. omega arith)
+judges-own (field-closed h k m) = (λ z. omega arith, λ z. omega arith)
+judges-own (not-finished h k m) = (λ z. omega arith, λ z. omega arith)
+judges-own (too-long h k l) = (λ z. omega arith, λ z. omega arith)
+judges-own (dead-byte h k l m) = (λ z. omega arith, λ z. omega arith)
+judges-own (byte-taken h k l m) = (λ z. omega arith, λ z. omega arith)
+
+-- what is lent is long enough, the machines are sound, and keys can give the form
+record Served (rooms form : List ℕ) : Type 0 where
+  lent : DeskLent (countOf form) rooms form
+  ready : Ready rooms form
+
+module _ {rooms : List ℕ} where
+  -- so it is with an opened form
+  served-none : {n : ℕ} {form form′ : List ℕ} → Opens n rooms form form′ DONE → Served rooms form′
+  served-none (opened f l s e k) = record {
+    lent = record { form-long = omega (arith, l .form-long, k .size); rooms-long = rw (e .count) (l .rooms-long) };
+    ready = record { sound = rw (e .count) s; given = record { entry = nothing; fields = rw (e .count) f; gives = key.opened; shows = rw (e .count) e } };
+  }
+
+  -- and after each key
+  served-key : {form form′ : List ℕ} {key number : ℕ} → key < byteValues → Presses rooms form form′ key number → Served rooms form → Served rooms form′
+  served-key b (no-room h k) v = rw k v
+  served-key b (no-form l h k) v = rw k v
+  served-key {key = x} {number} b (answered l r u s k) v = record {
+    lent = record { form-long = omega (arith, l .form-long, k .size); rooms-long = rw (s .count) (l .rooms-long) };
+    ready = record {
+      sound = rw (s .count) (r .sound);
+      given = record { entry = after (r .given .entry) x number; fields = rw (s .count) (r .given .fields); gives = rw (s .count) (key.pressed (r .given .gives) b u); shows = rw (s .count) s };
+    };
+  }
+
+  served-keys : {form form′ keys kept : List ℕ} → Bytes keys → KeysPressed rooms form keys kept form′ → Served rooms form → Served rooms form′
+  served-keys g none v = v
+  served-keys g (accepted p q) v = served-keys (g .1) q (served-key (g .0) p v)
+  served-keys g (refused p d q) v = served-keys (g .1) q (served-key (g .0) p v)
+
+  -- after any keys from an opened form no key is answered by ROOM or FORM
+  pub never-form : {n : ℕ} {form form₁ form₂ form₃ keys kept : List ℕ} {key number : ℕ} → Opens n rooms form form₁ DONE → Bytes keys
+      → KeysPressed rooms form₁ keys kept form₂ → Presses rooms form₂ form₃ key number → (number ≡ ROOM → ⊥) × (number ≡ FORM → ⊥)
+  never-form o g p q = own (served-keys g p (served-none o)) q
+    where
+      own : {form form′ : List ℕ} {key number : ℕ} → Served rooms form → Presses rooms form form′ key number → (number ≡ ROOM → ⊥) × (number ≡ FORM → ⊥)
+      own v (no-room h k) = absurd (h (v .lent))
+      own v (no-form l h k) = absurd (h (v .ready))
+      own v (answered l r u s k) = judges-own u

@@ -1,7 +1,7 @@
 //! The times of the library's operations, beside libfa, RE2 and plain loops, as tables in Markdown. `host/bench/run` builds and runs it.
 //!
 //! - `subjects`: the patterns and texts.  `ours`, `fa`, `re2`, `plain`: what is measured.  `agree`: that they accept the same strings.
-//! - `clock`: the medians of batches.  `compile`, `compare`, `matching`, `packing`: a section each.  `about`, `table`: what is printed.
+//! - `clock`: the medians of batches.  `compile`, `compare`, `matching`, `packing`, `desk`: a section each.  `about`, `table`: what is printed.
 #![deny(unsafe_op_in_unsafe_fn)]
 
 mod about;
@@ -9,6 +9,7 @@ mod agree;
 mod clock;
 mod compare;
 mod compile;
+mod desk;
 mod fa;
 mod matching;
 mod ours;
@@ -25,5 +26,6 @@ fn main() {
     targets.extend(compare::measure(&subjects));
     targets.extend(matching::measure(&subjects));
     packing::measure(&subjects);
+    desk::measure();
     table::print_targets(&targets);
 }
