@@ -1,5 +1,4 @@
 -- A text that is Dead stays so with more bytes, and an accepted text is not Dead. So no prefix of an accepted text, or of one that is not Dead, is Dead.
---   dead-more: more bytes after a dead text
 --   prefix-kept: a prefix of a text that is not dead
 --   accepted-kept: an accepted text is not dead
 use Prim.Native.Nat.{ℕ}
@@ -14,7 +13,7 @@ use Rattle.scope.proofs.Match.{determined}
 use Rattle.desk.specs.Key.{IsAccepted, IsDead}
 
 -- a prefix that no continuation would make accepted is one of the longer text too
-pub dead-more : {room t : List ℕ} (u : List ℕ) → IsDead room t → IsDead room (t ++ u)
+dead-more : {room t : List ℕ} (u : List ℕ) → IsDead room t → IsDead room (t ++ u)
 dead-more {room} {t} u d = record { place = d .place; matched = more (d .matched) }
   where
     more : {i : ℕ} → Matches room t DEAD i → Matches room (t ++ u) DEAD i

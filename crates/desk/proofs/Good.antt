@@ -3,7 +3,6 @@
 --   Literals t: no byte of t is a key
 --   Good rooms n e: closed texts are accepted, the open one is empty or not Dead, the later ones are empty; all are short, of bytes, and have no keys in them
 --   retyped-here, retyped-there, either: the texts of an entry with another text in its open field
---   good-after: a key keeps it
 --   gives-good: what keys give is good
 --   good-gives: keys give what is good
 use Prim.Native.Nat.{ℕ, zero, suc, _+_, _-_, _≤_, _<_}
@@ -103,7 +102,7 @@ literals-more t key l k i h = elim (split i (length t)) [
 
 module _ {rooms : List ℕ} {n : ℕ} where
   -- a key keeps it
-  pub good-after : {e : Entry} {key number : ℕ} → Good rooms n e → key < byteValues → Judges rooms n e key number → Good rooms n (after e key number)
+  good-after : {e : Entry} {key number : ℕ} → Good rooms n e → key < byteValues → Judges rooms n e key number → Good rooms n (after e key number)
   good-after g b (all-closed h) = g
   good-after {e} g b (taken-back h k) =
       let t = openText e in

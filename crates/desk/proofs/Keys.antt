@@ -1,10 +1,10 @@
 -- What a key answers, where everything but the open field was judged. If its room is sound and its text is one that it can have, the form passes the test, so it
 -- shows an entry that keys give, with the field's own text; the answer to the key is then the answer to that entry.
---   shows-retyped, tail-retyped: a form with another text in its open field
 --   presses-size: a key leaves a form as long as it was
 --   refused, refused-filled, refused-empty, presses-unplain, presses-lost: the form is none that keys can give
 --   presses-all: all fields are closed
---   presses-back, presses-closed, presses-unfinished, presses-long, presses-dead, presses-taken: the answers
+--   inside: the open field is one of the form's
+--   presses-back, presses-long: the answers to 0x08, and to a byte too many
 --   text-held, text-lost: whether the field is one that keys lead to
 --   closes, closes-unfinished, closes-dead, closes-lost: the answers to 0x0D, by how the field stands
 --   types-accepted, types-unfinished, types-dead, types-lost: the answers to a byte, by how the field stands with it
@@ -41,14 +41,14 @@ use Rattle.desk.proofs.Exact.{given-valid, Found, valid-given}
 use Rattle.desk.proofs.Standings.{accepted-sound, Held, stands-held}
 
 -- a field with no text passes
-pub empty-plain : {form : List ℕ} {f : ℕ} → Empty form f → Plain form f
+empty-plain : {form : List ℕ} {f : ℕ} → Empty form f → Plain form f
 empty-plain e = record { short = omega (arith, e .none); literal = λ i h. absurd (omega (arith, e .none)); zero = λ i h k. e .zero i h }
 
 -- ---- another text in the open field
 
 module _ {form form′ : List ℕ} {f : ℕ} {t : List ℕ} (h : f < fieldLimit) (r : Retyped form form′ f t) where
   -- the form shows it
-  pub shows-retyped : {n : ℕ} {e : Entry} → Shows n e form → e .closed ≡ f → Shows n (retyped e t) form′
+  shows-retyped : {n : ℕ} {e : Entry} → Shows n e form → e .closed ≡ f → Shows n (retyped e t) form′
   shows-retyped {n} {e} s z = record {
     count = r .outside 0 (λ x. omega arith) (inl (omega arith)) ∙ s .count;
     closed = r .outside 1 (λ x. omega arith) (inl (omega arith)) ∙ s .closed;
@@ -67,7 +67,7 @@ module _ {form form′ : List ℕ} {f : ℕ} {t : List ℕ} (h : f < fieldLimit)
       apart a b n = ⊎-elim inl (λ k. inr (omega arith)) (split a b)
 
   -- and its tail is kept
-  pub tail-retyped : TailKept formBytes form form′
+  tail-retyped : TailKept formBytes form form′
   tail-retyped = record { size = r .size; outside = λ j k. r .outside j (λ x. omega arith) (inr (omega arith)) }
 
 -- ---- forms that keys cannot give
@@ -172,7 +172,7 @@ module _ {rooms form : List ℕ} {f : ℕ} (b : Begun rooms form f) where
         answered (b .lent) ready (taken-back is-open refl) (rw (size, open-text) (shows-retyped inside r (found .given .shows) closed-at)) (tail-retyped inside r)
 
     -- 0x0D on an accepted text
-    pub presses-closed : IsAccepted (roomOf rooms f) (textOf form f) → Presses rooms form (set form 1 (f + 1)) CLOSE DONE
+    presses-closed : IsAccepted (roomOf rooms f) (textOf form f) → Presses rooms form (set form 1 (f + 1)) CLOSE DONE
     presses-closed a = answered (b .lent) ready (field-closed is-open refl (rw (closed-at, open-text) a)) (record {
       count = getD-set-other form 1 0 (f + 1) 0 (λ x. omega arith) ∙ shows .count;
       closed = getD-set-same form 1 (f + 1) 0 (omega (arith, b .lent .form-long)) ∙ rw closed-at refl;
@@ -184,7 +184,7 @@ module _ {rooms form : List ℕ} {f : ℕ} (b : Begun rooms form f) where
         shows = found .given .shows
 
     -- on any other
-    pub presses-unfinished : (IsAccepted (roomOf rooms f) (textOf form f) → ⊥) → Presses rooms form form CLOSE UNFINISHED
+    presses-unfinished : (IsAccepted (roomOf rooms f) (textOf form f) → ⊥) → Presses rooms form form CLOSE UNFINISHED
     presses-unfinished n =
         answered (b .lent) ready (not-finished is-open refl (λ a. n (rw (closed-at, open-text) at a))) (found .given .shows) (all-kept form formBytes)
 
@@ -193,11 +193,11 @@ module _ {rooms form : List ℕ} {f : ℕ} (b : Begun rooms form f) where
     presses-long l e = answered (b .lent) ready (too-long is-open l (omega (arith, size))) (found .given .shows) (all-kept form formBytes)
 
     -- a byte with which the field is dead
-    pub presses-dead : {key : ℕ} → Literal key → lengthOf form f < textLimit → IsDead (roomOf rooms f) (textOf form f ++ (key ∷ [])) → Presses rooms form form key DEAD-BYTE
+    presses-dead : {key : ℕ} → Literal key → lengthOf form f < textLimit → IsDead (roomOf rooms f) (textOf form f ++ (key ∷ [])) → Presses rooms form form key DEAD-BYTE
     presses-dead l h d = answered (b .lent) ready (dead-byte is-open l (omega (arith, size)) (rw (closed-at, open-text) d)) (found .given .shows) (all-kept form formBytes)
 
     -- a byte that is taken
-    pub presses-taken : {key : ℕ} {form′ : List ℕ} → Literal key → lengthOf form f < textLimit → (IsDead (roomOf rooms f) (textOf form f ++ (key ∷ [])) → ⊥)
+    presses-taken : {key : ℕ} {form′ : List ℕ} → Literal key → lengthOf form f < textLimit → (IsDead (roomOf rooms f) (textOf form f ++ (key ∷ [])) → ⊥)
         → Retyped form form′ f (textOf form f ++ (key ∷ [])) → Presses rooms form form′ key DONE
     presses-taken {key} l h n r = answered (b .lent) ready (byte-taken is-open l (omega (arith, size)) (λ d. n (rw (closed-at, open-text) at d)))
         (rw (ne-eqb key BACK (l .0), ne-eqb key CLOSE (l .1), open-text) (shows-retyped inside r (found .given .shows) closed-at)) (tail-retyped inside r)

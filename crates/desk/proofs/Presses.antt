@@ -1,6 +1,6 @@
 -- A key is determined: a form shows one entry, and the answer to a key is found by questions with yes or no, asked in one order. Whether a text is accepted, or
 -- Dead, is not decided here: two numbers that are equal either way are equal.
---   judges-moved, judges-one: a key has the same answers to entries that agree, and has one
+--   judges-moved: a key has the same answers to entries that agree
 --   after-one: entries that agree do so after the key
 --   given-one: the entry by which a key judges a form agrees with each that the form shows
 --   determined: two results of one key are equal, with every byte of the form
@@ -108,7 +108,7 @@ module _ {n : ℕ} {e e′ : Entry} (few : n ≤ fieldLimit) (g : Agree e e′) 
   judges-moved (byte-taken h k l m) = byte-taken (there h) k (rw (← texts h) l) (λ z. m (rw (texts h, g .closed) z))
 
   -- a key has one answer to them
-  pub judges-one : {rooms : List ℕ} {key i j : ℕ} → Judges rooms n e key i → Judges rooms n e′ key j → i ≡ j
+  judges-one : {rooms : List ℕ} {key i j : ℕ} → Judges rooms n e key i → Judges rooms n e′ key j → i ≡ j
   judges-one {rooms} {key} u v = answer-one rooms n e′ key (judges-moved u) v
 
 -- another text in the open field

@@ -37,10 +37,6 @@ module _ {form : List ℕ} {f : ℕ} (h : f < fieldLimit) (l : formBytes ≤ len
     size : length (textOf form f) ≡ lengthOf form f
     size = text-length form f l h (p .short)
 
-    -- past its end both the form and the text have zero
-    past : (j : ℕ) → j < textLimit → lengthOf form f ≤ j → byteOf form f j ≡ getD (textOf form f) j 0
-    past j k m = p .zero j k m ∙ sym (List·getD-eq-default (textOf form f) 0 (omega (arith, size)))
-
     -- the last byte is taken out
     pub retyped-last : 0 < lengthOf form f → Retyped form (set (set form (textsAt + f * textLimit + (lengthOf form f - 1)) 0) (lengthsAt + f) (lengthOf form f - 1)) f (take (lengthOf form f - 1) (textOf form f))
     retyped-last k = stored (lengthOf form f - 1) 0 (lengthOf form f - 1) t (omega (arith, p .short)) (sym long) (sym (over (lengthOf form f - 1) (omega arith)))

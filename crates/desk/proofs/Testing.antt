@@ -1,6 +1,6 @@
 -- What the greatest byte of a part says of the fields in it: it is 0 exactly if the part has no other byte.
---   plain-is, unplain, plain-zero: the test of one field
---   empty-are, lengths-left, texts-left: the test that fields are empty
+--   plain-zero, plain-is: the test of one field
+--   lengths-left, texts-left, empty-are: the test that fields are empty
 use Prim.Native.Nat.{ℕ, _+_, _*_, _-_, _≤_, _<_}
 use mathlib.Core.Path.{_≡_}
 use mathlib.Core.Bool.{Bool}

@@ -13,13 +13,16 @@ use lib.Dec.{eqb}
 use lib.ListN.{length, take}
 use Rattle.scope.specs.Machine.{walk}
 
+-- "fields closed", and "texts": of every field, those that the form has not are empty
 pub record Entry : Type 0 where
   pub closed : ℕ
   pub text : ℕ → List ℕ
 
+-- of an opened form
 abbrev pub nothing : Entry
 nothing = record { closed = 0; text = λ f. [] }
 
+-- fields are filled in their order
 abbrev pub openText : Entry → List ℕ
 openText e = e .text (e .closed)
 
@@ -45,5 +48,6 @@ typed e key =
     cond (eqb key BACK) (retyped e (take (length (openText e) - 1) (openText e)))
     (cond (eqb key CLOSE) (record { closed = e .closed + 1; text = e .text }) (retyped e (openText e ++ (key ∷ []))))
 
+-- "the history of accepted keys"
 abbrev pub history : List ℕ → Entry
 history keys = walk typed nothing keys

@@ -1,5 +1,5 @@
 -- A sequence of keys on a form.
---   KeysPressed rooms form keys accepted form′: the keys lead from form to form′, and those in `accepted` were answered Done
+--   KeysPressed rooms form keys kept form′: the keys lead from form to form′, and those in `kept` were answered Done
 use Prim.Native.Nat.{ℕ}
 use mathlib.Core.Path.{_≡_}
 use mathlib.Core.List.{List, [], _∷_}

@@ -21,6 +21,7 @@ use Rattle.desk.specs.Form.{textLimit}
 abbrev pub roomOf : List ℕ → ℕ → List ℕ
 roomOf rooms f = drop (f * roomBytes) rooms
 
+-- what matching answers: "an Accepted field", "the field with that byte is Dead"
 abbrev pub IsAccepted : List ℕ → List ℕ → Type 0
 IsAccepted room text = Matches room text ACCEPTED 0
 
@@ -48,6 +49,7 @@ module _ (rooms : List ℕ) (n : ℕ) (e : Entry) (key : ℕ) where
 abbrev pub after : Entry → ℕ → ℕ → Entry
 after e key number = cond (eqb number DONE) (typed e key) e
 
+-- an opened form has nothing entered, and a key, accepted or refused, leads on
 module _ (rooms : List ℕ) (n : ℕ) where
   pub data Gives : Entry → Type 0 where
     opened : Gives nothing

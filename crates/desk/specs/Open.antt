@@ -21,6 +21,7 @@ pub record DeskLent (n : ℕ) (rooms form : List ℕ) : Type 0 where
   pub form-long : formBytes ≤ length form
   pub rooms-long : n * roomBytes ≤ length rooms
 
+-- not FORM: "9 for an unsound machine"
 abbrev pub AllSound : List ℕ → ℕ → Type 0
 AllSound rooms n = (f : ℕ) → f < n → Sound (roomOf rooms f)
 

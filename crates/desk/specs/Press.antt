@@ -20,6 +20,7 @@ pub record CanGive (rooms form : List ℕ) : Type 0 where
   pub gives : Gives rooms (countOf form) entry
   pub shows : Shows (countOf form) entry form
 
+-- not FORM: sound machines, and a form that they and keys can give
 pub record Ready (rooms form : List ℕ) : Type 0 where
   pub sound : AllSound rooms (countOf form)
   pub given : CanGive rooms form

@@ -18,6 +18,7 @@ use Rattle.desk.specs.Key.{roomOf, IsAccepted, IsDead}
 use Rattle.desk.specs.Open.{DeskLent}
 use Rattle.desk.specs.Test.{Plain, Empty, Kept}
 
+-- a text with which nothing is wrong is Accepted, Unfinished or Dead, as matching says; Lost, if the field could not have had its first bytes
 module _ (room text : List ℕ) (kept : ℕ) where
   pub data Stands : Standing → Type 0 where
     accepted : IsAccepted room text → Stands Standing.Accepted
@@ -25,10 +26,12 @@ module _ (room text : List ℕ) (kept : ℕ) where
     dead : IsDead room text → Kept room (take kept text) → Stands Standing.Dead
     lost : (Sound room → Kept room (take kept text) → ⊥) → Stands Standing.Lost
 
+-- a closed field: a text that passes, and is accepted
 pub record Filled (rooms form : List ℕ) (f : ℕ) : Type 0 where
   pub plain : Plain form f
   pub accepted : IsAccepted (roomOf rooms f) (textOf form f)
 
+-- the fields before f are filled, those after it empty, and the machines of these sound
 pub record Begun (rooms form : List ℕ) (f : ℕ) : Type 0 where
   pub lent : DeskLent (countOf form) rooms form
   pub fields : Fields (countOf form)

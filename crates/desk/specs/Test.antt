@@ -11,18 +11,22 @@ use Rattle.desk.specs.Entry.{Literal}
 use Rattle.desk.specs.Form.{fieldLimit, textLimit, countOf, closedOf, lengthOf, byteOf, textOf, Fields}
 use Rattle.desk.specs.Key.{roomOf, IsAccepted, IsDead}
 
+-- lengths at most 128, no 0x08 or 0x0D in a text, zero after it
 pub record Plain (form : List ℕ) (f : ℕ) : Type 0 where
   pub short : lengthOf form f ≤ textLimit
   pub literal : (i : ℕ) → i < lengthOf form f → Literal (byteOf form f i)
   pub zero : (i : ℕ) → i < textLimit → lengthOf form f ≤ i → byteOf form f i ≡ 0
 
+-- no byte, and zero in the place of each
 pub record Empty (form : List ℕ) (f : ℕ) : Type 0 where
   pub none : lengthOf form f ≡ 0
   pub zero : (i : ℕ) → i < textLimit → byteOf form f i ≡ 0
 
+-- a field whose language is empty can be open with an empty text, which is Dead
 abbrev pub Kept : List ℕ → List ℕ → Type 0
 Kept room text = (text ≡ []) ⊎ (IsDead room text → ⊥)
 
+-- 1 to 16 fields, of which no more are closed; closed ones accepted, the open one kept, and no text in any other
 pub record Valid (rooms form : List ℕ) : Type 0 where
   pub fields : Fields (countOf form)
   pub within : closedOf form ≤ countOf form
