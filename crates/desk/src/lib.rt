@@ -2,8 +2,8 @@
 //
 // A form is a lent buffer, and the machine rooms are lent end to end with every call. Nothing is kept between calls, so each key judges all that it is lent:
 // that the machines are sound, and that the form is one that they and some keys can give. Of the library the desk uses the contracts of matching and of the
-// test whether a room is sound, beside the helpers on slices, and nothing that is inside. A key costs one judgement of each room, one pass over each closed
-// text, and one match of the open field. One file a part: `test` judges a form, `stand` how the open field stands, `typing` does the keys.
+// test whether a room is sound, beside the helpers on slices, and not how they do it. A key costs one judgement of each room, one pass over each closed text,
+// and one match of the open field. One file a part: `test` judges a form, `stand` how the open field stands, `typing` does the keys.
 mod stand;
 mod test;
 mod typing;
