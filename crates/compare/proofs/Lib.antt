@@ -1,4 +1,5 @@
 -- The laws behind comparing.
 pub mod Halving
 pub mod Spelling
+pub mod Twins
 pub mod Results

@@ -1,4 +1,5 @@
--- Results. The starts lie in one part when nothing splits any more: the machines are the same. Else the string room holds the string.
+-- Results. The rooms hold one machine, or the starts lie in one part when nothing splits any more: the machines are the same. Else the string room holds the string.
+--   answer-twins: the rooms hold one machine
 --   answer-same, answer-apart, answer-spells, answer-fits, answer-separated: the starts lie in one part; else the string is as long as their distance, and is written
 --   compares-within: the string is no longer than the rounds, and these are at most s + t - 2
 --   compares-fits: it fits into the string room
@@ -9,15 +10,26 @@ use native.Mathlib.Omega.{arith}
 use Rattle.scope.specs.Answers.{SAME, SEPARATED}
 use Rattle.scope.specs.Limits.{wordBytes}
 use Rattle.scope.specs.Room.{statesOf, machine, Sound}
+use Rattle.scope.specs.Rounds.{Rounds}
 use Rattle.scope.specs.Compare.{Compares, no-room, no-form, same, separated}
 use Rattle.scope.proofs.Run.{sound-closed}
+use Rattle.scope.proofs.Agree.{Agree, agree-same}
 use Rattle.scope.proofs.Aside.{rounds-two}
 use Rattle.scope.proofs.Separate.{equal-by, word-within}
 use Rattle.parts.specs.Side.{both}
 use Rattle.parts.specs.Parts.{Alike}
 use Rattle.parts.specs.Refined.{Refined}
 use Rattle.parts.proofs.Refined.{refined-together, both-few}
+use Rattle.compare.specs.Twins.{Twins}
 use Rattle.compare.specs.Word.{Apart, Between, Spells, Holds, Answers}
+use Rattle.compare.proofs.Twins.{twins-agree, rounds-twice}
+
+-- the rooms hold one machine
+pub answer-twins : {a b word : List ℕ} {rounds : ℕ} → Sound a → Sound b → Twins a b → Rounds (machine a) rounds → Answers a b word word SAME 0 rounds
+answer-twins {a} {b} {rounds = rounds} s t e d bytes bytes′ words words′ lent clear =
+    let c = sound-closed a s in
+    let m : Agree (machine a) (machine b) = twins-agree a b s e in
+    same lent s t (agree-same (machine a) (machine b) c m 0 (s .some-state)) (rounds-twice (machine a) (machine b) c m rounds d) refl clear
 
 module _ {a b part parent born : List ℕ} {rounds : ℕ} (s : Sound a) (t : Sound b) (d : Refined (both a b) part parent born rounds) where
   first : 0 < statesOf a + statesOf b

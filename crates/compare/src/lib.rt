@@ -5,6 +5,8 @@
 // get finer with each round, so it is found by halving, where each step climbs from both starts. Of these strings the first is spelled byte by byte: two
 // states that r + 1 bytes tell apart, and no fewer, are led by some byte to two states that r bytes tell apart, and the first such byte is the next of the
 // string. A byte leads where the least byte of its kind does, so only these are tried.
+//
+// Where both rooms hold one machine byte for byte, they are the same, and its states are refined once.
 use scope::Compared;
 use scope::Machine;
 ghost use Prim.Native.Nat.{ℕ, _≤_};
@@ -12,9 +14,11 @@ ghost use lib.ListN.{length};
 ghost use Rattle.scope.specs.Answers.{comparedNumber, comparedLength, comparedRounds};
 ghost use Rattle.scope.specs.Compare.{CompareLent, Compares};
 ghost use Rattle.scope.specs.Limits.{wordBytes};
-ghost use Rattle.scope.specs.Room.{Sound};
+ghost use Rattle.scope.specs.Room.{machine, Sound};
+ghost use Rattle.scope.specs.Rounds.{Rounds};
 ghost use Rattle.slices.specs.Parts.{Decides};
 ghost use Rattle.parts.specs.Kinds.{Kinds};
+ghost use Rattle.compare.specs.Twins.{Twins};
 ghost use Rattle.compare.specs.Word.{Apart, Between, Spells, Holds, Answers};
 
 // Whether the two rooms, the string room and the scratch are long enough.
@@ -103,12 +107,49 @@ fn spell(
     }
 }
 
+// Whether both rooms hold one machine byte for byte, as far as the used cells go.
+fn are_twins(left: &[u8], right: &[u8]) -> bool
+    requires { ⌜ Sound (now left) × Sound (now right) ⌝ }
+    ensures { λ r. ⌜ Decides r (Twins (now (left .entry)) (now (right .entry))) ⌝ }
+{
+    let cells = left[0] as usize * left[1] as usize;
+    slices::same(left, right, Machine::CELLS_AT + cells)
+}
+
+// The rounds of one room's machine alone.
+fn rounds_alone(room: &[u8]) -> usize
+    requires { ⌜ Sound (now room) ⌝ }
+    ensures { λ r. ⌜ Rounds (machine (now (room .entry))) r ⌝ }
+{
+    let kinds = parts::kinds(room, room, room[1] as usize);
+    let least = kinds.least;
+    let count = kinds.count;
+    let columns = parts::columns(room, &least, count);
+    let mut part = [0u16; parts::STATES];
+    let mut parent = [0u16; parts::STATES];
+    let mut born = [0u16; parts::STATES];
+    parts::refine(
+        room,
+        room,
+        &columns,
+        &columns,
+        count,
+        room[0] as usize,
+        &mut part,
+        &mut parent,
+        &mut born,
+    )
+}
+
 // The answer for two sound rooms.
 fn answer(left: &[u8], right: &[u8], word: &mut [u8]) -> Compared
     requires { ⌜ Sound (now left) × Sound (now right) ⌝ }
     requires { ⌜ wordBytes ≤ length (now word) ⌝ }
     ensures { λ r. ⌜ Answers (now (left .entry)) (now (right .entry)) (now (word .entry)) (now (word .exit)) (comparedNumber r) (comparedLength r) (comparedRounds r) ⌝ }
 {
+    if are_twins(left, right) {
+        return Compared::Same(rounds_alone(left));
+    }
     let s = left[0] as usize;
     let kinds = parts::kinds(left, right, Machine::BYTES);
     let least = kinds.least;

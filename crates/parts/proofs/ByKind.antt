@@ -4,7 +4,7 @@
 --   kinds-first, kinds-old, kinds-new: the kinds of the byte 0; a byte more is of the kind of one before it, or of a new one
 --   level-none, level-more, level-not: a stretch of bytes with the class of the byte before, so far
 --   Passed, passed-first, passed-same, passed-level, passed-old, passed-new, passed-full, passed-all: the pass, its turns, and where it ends
---   most-bytes: there are at most 256 kinds
+--   most-bytes, most-classes: there are at most 256 kinds; for one room at most as many as classes
 --   columns-of, least-bytes: the classes of the least bytes are the columns; these are bytes
 --   Cell m q c, left-cell, right-cell: the cell of a state and a kind lies in the room, and is a state
 --   Led, led-more, led-all, led-apart: two states agree exactly if each kind leads them into one part
@@ -252,6 +252,10 @@ passed-all e g = record { kind = g .kind; are = rw e at (g .kinds) }
 -- there are at most as many kinds as bytes
 pub most-bytes : (a b : List ℕ) → Most a b byteValues
 most-bytes a b = record { number = λ x. x; below = λ x h. h; alike = λ x y h l e. rw e refl }
+
+-- and for one room at most as many as classes
+pub most-classes : {a : List ℕ} → Sound a → Most a a (classesOf a)
+most-classes {a} s = record { number = classOf a; below = λ x h. s .classes (classesAt + x) (omega arith) (omega arith); alike = λ x y h l e. rw e refl }
 
 -- ---- columns
 

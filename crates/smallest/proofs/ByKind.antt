@@ -1,15 +1,14 @@
 -- The kinds of one room's bytes: its classes that hold a byte.
 --   kind-column: the column of a byte's kind is its class
 --   distinct: no two kinds have one column
---   most-classes: there are at most as many kinds as classes
-use Prim.Native.Nat.{ℕ, _+_, _<_}
-use mathlib.Core.Path.{_≡_, refl, sym, _∙_}
+use Prim.Native.Nat.{ℕ, _<_}
+use mathlib.Core.Path.{_≡_, sym, _∙_}
 use mathlib.Core.List.{List}
 use native.Mathlib.Omega.{arith}
 use lib.ListN.{getD}
-use Rattle.scope.specs.Limits.{byteValues, classesAt}
-use Rattle.scope.specs.Room.{classesOf, classOf, Sound}
-use Rattle.parts.specs.Kinds.{KindsOf, Most, Column}
+use Rattle.scope.specs.Limits.{byteValues}
+use Rattle.scope.specs.Room.{classOf}
+use Rattle.parts.specs.Kinds.{KindsOf, Column}
 use Rattle.smallest.specs.Classes.{Distinct}
 
 module _ {a kind least column : List ℕ} {kinds : ℕ} (k : KindsOf a a kind least kinds) (c : Column a least column kinds) where
@@ -23,7 +22,3 @@ module _ {a kind least column : List ℕ} {kinds : ℕ} (k : KindsOf a a kind le
       let g : i < kinds = omega arith in
       let same : classOf a (getD least i 0) ≡ classOf a (getD least j 0) = sym (c .inside i g) ∙ e ∙ c .inside j h in
       omega (arith, k .own i g, k .own j h, k .one (getD least i 0) (getD least j 0) (k .byte i g) (k .byte j h) same same)
-
--- the class of a byte is the number of its kind
-pub most-classes : {a : List ℕ} → Sound a → Most a a (classesOf a)
-most-classes {a} s = record { number = classOf a; below = λ x h. s .classes (classesAt + x) (omega arith) (omega arith); alike = λ x y h l e. rw e refl }

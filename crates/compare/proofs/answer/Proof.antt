@@ -1,42 +1,51 @@
--- The starts lie in one part, or there is a first round after which they are not together, and so many bytes are spelled.
+-- The rooms are twins, or the starts lie in one part, or there is a first round after which they are not together, and so many bytes are spelled.
 use mathlib.Core.Path.{refl}
 use native.Mathlib.Omega.{arith}
 use borrow.Author.Needs.{needs}
 use Rattle.parts.proofs.ByKind.{most-bytes, columns-of, least-bytes}
 use Rattle.parts.proofs.Rooms.{side-both}
-use Rattle.compare.proofs.Results.{answer-same, answer-apart, answer-spells, answer-fits, answer-separated}
+use Rattle.compare.proofs.Results.{answer-twins, answer-same, answer-apart, answer-spells, answer-fits, answer-separated}
 use Rattle.compare.proofs.answer.Statement.{statement}
 use Rattle.compare.proofs.answer.Tie as tie
 
+are-twins-requires : tie.Need-are-twins-requires
+are-twins-requires c κs = c .before .before .before .pre .0
+
+rounds-alone-requires : tie.Need-rounds-alone-requires
+rounds-alone-requires c κs = c .before .before .before .before .before .pre .0 .0
+
+returns : tie.Need-returns
+returns c = let s = c .before .before .before .before .before .before .pre .0 in answer-twins (s .0) (s .1) (c .before .before .are-twins .ensures .yes (c .before .if1 .taken)) (c .rounds-alone .ensures)
+
 kinds-requires : tie.Need-kinds-requires
-kinds-requires c κs = (c .before .before .before .before .pre .0, most-bytes _ _)
+kinds-requires c κs = (c .before .before .before .before .before .before .pre .0, most-bytes _ _)
 
 columns-requires : tie.Need-columns-requires
-columns-requires c κs = (c .before .before .before .before .before .before .before .pre .0 .0, least-bytes (c .before .before .kinds .ensures))
+columns-requires c κs = (c .before .before .before .before .before .before .before .before .before .pre .0 .0, least-bytes (c .before .before .kinds .ensures))
 
 columns-requires-2 : tie.Need-columns-requires-2
-columns-requires-2 c κs = (c .before .before .before .before .before .before .before .before .before .pre .0 .1, least-bytes (c .before .before .before .before .kinds .ensures))
+columns-requires-2 c κs = (c .before .before .before .before .before .before .before .before .before .before .before .pre .0 .1, least-bytes (c .before .before .before .before .kinds .ensures))
 
 refine-requires : tie.Need-refine-requires
 refine-requires c κs =
-    let s = c .before .before .before .before .before .before .before .before .before .before .before .before .before .before .before .before .pre .0 in
+    let s = c .before .before .before .before .before .before .before .before .before .before .before .before .before .before .before .before .before .before .pre .0 in
     (side-both _ _ (s .0) (s .1), (columns-of (c .before .before .before .before .before .before .before .before .before .before .before .kinds .ensures) (c .before .before .before .before .before .before .before .before .columns .ensures) (c .before .before .before .before .before .before .columns2 .ensures), (refl, refl, refl)))
 
-mul-if1 : tie.Need-mul-if1
-mul-if1 c = omega (arith, c .before .before .before .before .before .before .before .before .before .before .before .before .before .before .before .before .before .pre .0 .0 .few-states)
+mul-if2 : tie.Need-mul-if2
+mul-if2 c = omega (arith, c .before .before .before .before .before .before .before .before .before .before .before .before .before .before .before .before .before .before .before .pre .0 .0 .few-states)
 
-array-read-if1-2 : tie.Need-array-read-if1-2
-array-read-if1-2 c = omega (arith, c .before .before .before .before .before .before .before .before .before .before .before .before .before .before .before .before .before .pre .0 .0 .few-states)
+array-read-if2-2 : tie.Need-array-read-if2-2
+array-read-if2-2 c = omega (arith, c .before .before .before .before .before .before .before .before .before .before .before .before .before .before .before .before .before .before .before .pre .0 .0 .few-states)
 
-returns : tie.Need-returns
-returns c = let s = c .before .before .before .before .before .before .before .before .before .before .before .before .before .before .before .before .before .before .pre .0 in answer-same (s .0) (s .1) (c .before .refine .ensures .0) (c .if1 .taken)
+returns-2 : tie.Need-returns-2
+returns-2 c = let s = c .before .before .before .before .before .before .before .before .before .before .before .before .before .before .before .before .before .before .before .before .pre .0 in answer-same (s .0) (s .1) (c .before .refine .ensures .0) (c .if2 .taken)
 
 distance-requires : tie.Need-distance-requires
-distance-requires c κs = let s = c .before .before .before .before .before .before .before .before .before .before .before .before .before .before .before .before .before .before .before .before .before .pre .0 in answer-apart (s .0) (s .1) (c .before .before .before .before .refine .ensures .0) (c .before .before .before .if1 .left)
+distance-requires c κs = let s = c .before .before .before .before .before .before .before .before .before .before .before .before .before .before .before .before .before .before .before .before .before .before .before .pre .0 in answer-apart (s .0) (s .1) (c .before .before .before .before .refine .ensures .0) (c .before .before .before .if2 .left)
 
 spell-requires : tie.Need-spell-requires
 spell-requires c κs =
-    let s = c .before .before .before .before .before .before .before .before .before .before .before .before .before .before .before .before .before .before .before .before .before .before .before .before .before .before .before .pre in
+    let s = c .before .before .before .before .before .before .before .before .before .before .before .before .before .before .before .before .before .before .before .before .before .before .before .before .before .before .before .before .before .pre in
     let r = c .before .before .before .before .before .before .before .before .before .before .refine .ensures .0 in
     let e = c .before .before .before .before .before .distance .ensures in
     (answer-spells (s .0 .0) (s .0 .1) r e, ((_, c .before .before .before .before .before .before .before .before .before .before .before .before .before .before .before .before .before .before .before .before .before .before .kinds .ensures), omega (arith, answer-fits (s .0 .0) (s .0 .1) r e, s .1)))
@@ -44,13 +53,16 @@ spell-requires c κs =
 same-length : tie.Need-same-length
 same-length c = c .before .before .spell .ensures .written .size
 
-returns-2 : tie.Need-returns-2
-returns-2 c = let s = c .before .before .before .before .before .before .before .before .before .before .before .before .before .before .before .before .before .before .before .before .before .before .before .before .before .before .before .before .before .before .pre .0 in answer-separated (s .0) (s .1) (c .before .before .before .before .before .before .before .before .before .before .before .before .before .refine .ensures .0) (c .before .before .spell .ensures)
+returns-3 : tie.Need-returns-3
+returns-3 c = let s = c .before .before .before .before .before .before .before .before .before .before .before .before .before .before .before .before .before .before .before .before .before .before .before .before .before .before .before .before .before .before .before .before .pre .0 in answer-separated (s .0) (s .1) (c .before .before .before .before .before .before .before .before .before .before .before .before .before .refine .ensures .0) (c .before .before .spell .ensures)
 
 pub answer-spec : {M : Type 1} → statement M
 answer-spec =
     tie.close
     (tie.spec
+    are-twins-requires
+    rounds-alone-requires
+    returns
     (λ c. search needs)
     (λ c. search needs)
     kinds-requires
@@ -61,10 +73,10 @@ answer-spec =
     (λ c. search needs)
     refine-requires
     (λ c. search needs)
-    mul-if1
-    array-read-if1-2
-    returns
+    mul-if2
+    array-read-if2-2
+    returns-2
     distance-requires
     spell-requires
     same-length
-    returns-2)
+    returns-3)

@@ -1,0 +1,68 @@
+-- Twins. Two rooms with the same bytes hold the same machine. Side by side no string then tells a state of the second from its fellow in the first: strings that are
+-- enough for the one machine are enough for both, so it has as many rounds alone.
+--   twins-agree: twins hold the same machine
+--   rounds-alone: refining the states of one room gives the rounds of its machine
+--   rounds-twice: beside a machine that agrees with it a machine has as many rounds as alone
+use Prim.Native.Nat.{ℕ, _+_, _-_, _*_, _<_}
+use mathlib.Core.Path.{_≡_, refl, sym, ap, _∙_}
+use mathlib.Core.Logic.{inl, inr}
+use mathlib.Core.List.{List}
+use native.Mathlib.Omega.{arith}
+use lib.Dec.{eqb}
+use Rattle.scope.specs.Limits.{classesAt, marksAt, cellsAt}
+use Rattle.scope.specs.Machine.{Machine, Same, Closed}
+use Rattle.scope.specs.Room.{statesOf, classesOf, classOf, nextOf, machine, Sound}
+use Rattle.scope.specs.Rounds.{aside, Rounds}
+use Rattle.scope.proofs.Tests.{split, below}
+use Rattle.scope.proofs.Room.{cell-used}
+use Rattle.scope.proofs.Agree.{Agree, agree-closed, agree-same, agree-rounds}
+use Rattle.scope.proofs.Rounds.{Enough, rounds-enough}
+use Rattle.scope.proofs.Aside.{aside-closed, left-run, right-run}
+use Rattle.parts.specs.Side.{side}
+use Rattle.parts.specs.Refined.{Refined}
+use Rattle.parts.proofs.Rooms.{next-left}
+use Rattle.compare.specs.Twins.{Twins}
+
+-- the same bytes: the same header, classes, marks and used cells
+pub twins-agree : (a b : List ℕ) → Sound a → Twins a b → Agree (machine a) (machine b)
+unfolding nextOf
+twins-agree a b s e = record {
+  states = e 0 (omega arith);
+  next = λ q x h k. rw (← e (classesAt + x) (omega arith), ← e 1 (omega arith)) (e (cellsAt + (q * classesOf a + classOf a x)) (omega (arith, cell-used a s q x h k)));
+  marks = λ q h. ap (λ (x : ℕ). eqb x 1) (e (marksAt + q) (omega (arith, s .few-states)));
+}
+
+-- the states of a room move beside another as they do alone
+pub rounds-alone : (a : List ℕ) {part parent born : List ℕ} {r : ℕ} → Refined (side a a (statesOf a)) part parent born r → Rounds (machine a) r
+rounds-alone a {r = r} d = agree-rounds (side a a (statesOf a)) (machine a) (d .closed)
+    (record { states = refl; next = λ q x h k. next-left a a q x h; marks = λ q h. rw (below q (statesOf a) .full h) refl }) r (d .last)
+
+-- where each state of M accepts the strings of some state of N, what is enough for N is enough for M
+enough : (M N : Machine) → ((q : ℕ) → q < M .states → (p : ℕ) × (p < N .states) × Same M q N p) → (r : ℕ) → Enough N r → Enough M r
+enough M N f r e p q h k u w g =
+    let (p′, i, x) = f p h in
+    let (q′, j, y) = f q k in
+    x w g ∙ e p′ q′ i j (λ v o l. sym (x v o) ∙ u v o l ∙ y v o) w g ∙ sym (y w g)
+
+-- a state of N folds onto its fellow in M
+pub rounds-twice : (M N : Machine) → Closed M → Agree M N → (r : ℕ) → Rounds M r → Rounds (aside M N) r
+rounds-twice M N c a r s =
+    let (e, n) = rounds-enough M c r .0 s in
+    rounds-enough (aside M N) (aside-closed M N c d) r .1 (enough (aside M N) M fold r e, λ k h f. n k h (enough M (aside M N) alone k f))
+  where
+    d : Closed N
+    d = agree-closed M N c a
+
+    alone : (q : ℕ) → q < M .states → (p : ℕ) × (p < M .states + N .states) × Same M q (aside M N) p
+    alone q h = (q, omega arith, λ w g. sym (left-run M N c d q w h g))
+
+    fold : (q : ℕ) → q < M .states + N .states → (p : ℕ) × (p < M .states) × Same (aside M N) q M p
+    fold q h = elim (split q (M .states)) [
+      | inl l ↦ (q, l, λ w g. left-run M N c d q w l g)
+      | inr l ↦ (
+          let p = q - M .states in
+          let z : M .states + p ≡ q = omega arith in
+          let i : p < M .states = omega (arith, a .states) in
+          (p, i, λ w g. rw z at (right-run M N c d p w (omega (arith, a .states)) g) ∙ sym (agree-same M N c a p i w g))
+          )
+    ]
