@@ -20,6 +20,7 @@ use Rattle.scope.specs.Machine.{Machine, walk, run, Closed}
 use Rattle.scope.specs.Reached.{FewSets}
 use Rattle.scope.specs.Room.{statesOf, classesOf, classOf, nextOf, machine, Sound}
 use Rattle.scope.proofs.Reached.{Covers, covers-recognises}
+use Rattle.scope.proofs.Room.{flat-in}
 use Rattle.scope.proofs.Run.{run-below, sound-closed}
 use Rattle.sets.specs.Value.{setAt, Put}
 use Rattle.determinise.specs.Layout.{setsAt, setOf}
@@ -29,7 +30,6 @@ use Rattle.determinise.specs.declared.Counted.{Counted}
 use Rattle.determinise.specs.declared.Counted.the-variants.{Few, Many}
 use Rattle.determinise.specs.declared.Built.the-variants.{Done, States}
 use Rattle.determinise.proofs.Kept.{kept-join, kept-wide, kept-sets, put-kept, kept-tail}
-use Rattle.determinise.proofs.Rows.{flat-in}
 
 -- a string leads to the state of the set that it leads to
 pub covers-walk : (e : Re) (M : Machine) (sets : ℕ → ℕ) → Closed M → Covers e M sets → (w : List ℕ) (q : ℕ) → q < M .states → Bytes w

@@ -1,6 +1,6 @@
 -- Rows of an image, one cell at a time. A cell leads to the set that one union and one mask have in common; that set is among the reached ones, or is the next
 -- of them. Reached it is, since a byte with that mask leads to it; so a 129th set shows that too many are reached.
---   flat-in, row-fits: a cell is among those of n rows; a row ends within the image
+--   row-fits: a row ends within the image
 --   rows-same, cell-more, set-new, sets-many: the same sets and cells in other buffers; a cell more, a set more, a set too many
 --   Filling: the loop over the classes of a row
 --   filling-none, filling-old, filling-new, filling-full, filling-end: its turns
@@ -20,6 +20,7 @@ use Rattle.scope.specs.Re.{Re, size}
 use Rattle.scope.specs.Bits.{move}
 use Rattle.scope.specs.Reached.{ReachedSet, ManySets}
 use Rattle.scope.proofs.Reached.{reached-next}
+use Rattle.scope.proofs.Room.{flat-in}
 use Rattle.scope.proofs.Tests.{split}
 use Rattle.sets.specs.Value.{setAt}
 use Rattle.determinise.specs.Layout.{setsAt, setOf, Kept}
@@ -29,10 +30,6 @@ use Rattle.determinise.proofs.Count.{over-one}
 use Rattle.determinise.proofs.Kept.{kept-none, kept-wide, kept-join, kept-set, kept-sets}
 
 -- ---- rows of k cells
-
--- a cell is among those of n rows
-pub flat-in : (n k q c : ℕ) → q < n → c < k → q * k + c < n * k
-flat-in n k q c a b = omega (arith, mul-le-mul-right k a, suc-mul q k)
 
 -- the row and the class of a cell
 flat-row : (k q c : ℕ) → c < k → (q * k + c) / k ≡ q

@@ -6,20 +6,17 @@
 --   word-bits: the bits of a word of a set are bits of the set
 use Prim.Native.Nat.{ℕ, zero, suc, _+_, _-_, _*_, _/_, _%_, _^_, _≤_, _<_}
 use mathlib.Core.Path.{_≡_, refl, sym, ap, ap₂, _∙_}
-use mathlib.Core.Bool.{Bool, true, false, false≢true}
+use mathlib.Core.Bool.{Bool, true, false}
 use mathlib.Core.List.{List}
-use mathlib.Core.Logic.{inl, inr}
-use native.Mathlib.Nat.{add-zero, add-suc, div-one, div-eq-of-lt, pow-suc, add-assoc, lt-of-lt-of-le}
+use native.Mathlib.Nat.{add-zero, add-suc, div-one, add-assoc}
 use native.Mathlib.Numerals.{add-one}
 use native.Mathlib.Omega.{arith}
 use lib.Bits.{bitOr, or-zero-r}
 use lib.Count.{trailingZeros}
-use lib.Dec.{eqb}
 use lib.ListN.{getD}
-use lib.Pow.{pow-mono, shr-shr, shr-le}
+use lib.Pow.{shr-shr, shr-le}
 use Rattle.scope.specs.Bits.{has, given, joined}
-use Rattle.scope.proofs.Bits.{digit, has-half, has-zero}
-use Rattle.scope.proofs.Tests.{split}
+use Rattle.scope.proofs.Bits.{has-shr, trailing-none, trailing-one, has-small, has-zero}
 use Rattle.sets.specs.Value.{setBits, setAt, value}
 use Rattle.sets.proofs.Words.{has-at}
 use Rattle.determinise.specs.Reach.{followOf, WordAnswer}
@@ -56,37 +53,6 @@ unfolding joined
 joined-same f g zero e = refl
 joined-same f g (suc n) e = rw (joined-same f g n (λ p h. e p (omega arith)), e n (omega arith))
 
--- ---- the lowest bit
-
-low : (n d : ℕ) → n % 2 ≡ d → has n 0 ≡ eqb d 1
-low n d e = rw (div-one, e)
-
--- below the lowest bit no bit is set
-trailing-none : (k n j : ℕ) → j < trailingZeros k n → has n j ≡ false
-unfolding trailingZeros
-trailing-none zero n j h = absurd (omega arith)
-trailing-none (suc k) n zero h = elim (digit n) [ inl e ↦ low n 0 e | inr e ↦ absurd (omega (arith, rw e at h)) ]
-trailing-none (suc k) n (suc j) h = elim (digit n) [
-  | inl e ↦ has-half n j ∙ trailing-none k (n / 2) j (omega (arith, rw e at h))
-  | inr e ↦ absurd (omega (arith, rw e at h))
-]
-
--- where some bit is set, so is the lowest
-trailing-one : (k n : ℕ) → 0 < n → n < 2 ^ k → has n (trailingZeros k n) ≡ true
-unfolding trailingZeros
-trailing-one zero n h l = absurd (omega arith)
-trailing-one (suc k) n h l = elim (digit n) [
-  | inl e ↦ (rw e (has-half n (trailingZeros k (n / 2)) ∙ trailing-one k (n / 2) (omega arith) (omega (arith, pow-suc 2 k))))
-  | inr e ↦ (rw e (low n 1 e))
-]
-
--- a bit stands below the length
-has-small : (n j k : ℕ) → has n j ≡ true → n < 2 ^ k → j < k
-has-small n j k t l = elim (split j k) [
-  | inl h ↦ h
-  | inr h ↦ absurd (false≢true (sym (ap (λ (m : ℕ). eqb (m % 2) 1) (div-eq-of-lt (lt-of-lt-of-le l (pow-mono h)))) ∙ t))
-]
-
 -- ---- the loop over a word
 
 pub record Passing (m : List ℕ) (w x u rest r at : ℕ) : Type 0 where
@@ -101,7 +67,7 @@ passing-none m w x u = record { within = omega arith; left = sym (div-one x); un
 module _ {m : List ℕ} {w x u rest r at : ℕ} (p : Passing m w x u rest r at) where
   -- the bits that are left
   bit : (j : ℕ) → has rest j ≡ has x (at + j)
-  bit j = rw (p .left) (ap (λ (n : ℕ). eqb (n % 2) 1) (shr-shr x at j))
+  bit j = rw (p .left) (has-shr x at j)
 
   -- a bit that is not set adds nothing
   nothing : (s j : ℕ) → ((j : ℕ) → j < 64 → has s (64 * w + j) ≡ has x j) → at + j < 64 → has rest j ≡ false → followOf m s (64 * w + at + j) ≡ 0

@@ -4,7 +4,9 @@ pub mod Rooms
 pub mod ByKind
 pub mod Marks
 pub mod Signs
+pub mod Rows
 pub mod Passes
+pub mod Gaps
 pub mod Turns
 pub mod Climbing
 pub mod Refined

@@ -128,14 +128,14 @@ pub record Passed (R : ℕ → ℕ → Type 0) (old new₀ new link parent paren
   pub some : Decides opened (Opened old new q)
   pub link-long : length link ≡ 256
 
-pub passed-none : (R : ℕ → ℕ → Type 0) (old new parent born : List ℕ) (r : ℕ) → Passed R old new new (replicate 256 0) parent parent born born r false 0
-passed-none R old new parent born r = record {
+pub passed-none : (R : ℕ → ℕ → Type 0) (old new link parent born : List ℕ) (r : ℕ) → length link ≡ 256 → ((x : ℕ) → getD link x 0 ≡ 0) → Passed R old new new link parent parent born born r false 0
+passed-none R old new link parent born r long z = record {
   named = renamed-none R new;
   chain = record { top = λ h l. absurd (omega arith); down = λ p l. absurd (omega arith); begun = λ p l. absurd (omega arith) };
-  zero = λ x l. zeros 256 x;
+  zero = λ x l. z x;
   births = record { made = λ x l. absurd (omega arith); kept = λ x n. (refl, refl); parent-long = refl; born-long = refl };
   some = fails (λ o. omega (arith, o .is-state));
-  link-long = refl;
+  link-long = long;
 }
 
 module _ (R : ℕ → ℕ → Type 0) (old link : List ℕ) (q : ℕ) (c : Chain R old link q) where

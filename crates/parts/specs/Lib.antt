@@ -2,6 +2,7 @@
 pub mod Side
 pub mod Kinds
 pub mod Parts
+pub mod Rows
 pub mod Signs
 pub mod Round
 pub mod Refined

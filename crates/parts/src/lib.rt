@@ -3,12 +3,13 @@
 // Two rooms stand side by side, the states of b after those of a. Round 0 parts the states by their mark; each next round splits what some byte
 // leads into different parts; the first round that opens no part is the last. A part is named by its least state: so a state that begins a part
 // begins one in every later round, and a part that is opened has one parent, the part that its least state lay in before. In a round a state is
-// compared only where something has moved that it or the beginning of its part leads to, only with the states that begin new parts within its old
-// one, and only over the least byte of each kind. With the round of birth kept beside the parent, the part of a state after any earlier round is
-// found by climbing.
+// looked at only where something has moved that it or the beginning of its part leads to, compared only with the states that begin new parts within
+// its old one, and only over the least byte of each kind. With the round of birth kept beside the parent, the part of a state after any earlier round
+// is found by climbing.
 use scope::Machine;
 ghost use mathlib.Core.Path.{_≡_};
-ghost use Prim.Native.Nat.{ℕ, _+_, _%_, _^_, _≤_, _<_};
+ghost use mathlib.Core.Bool.{true};
+ghost use Prim.Native.Nat.{ℕ, _+_, _*_, _%_, _^_, _≤_, _<_};
 ghost use lib.ListN.{length, getD, replicate};
 ghost use Rattle.scope.specs.Limits.{byteValues, stateLimit};
 ghost use Rattle.scope.specs.Room.{statesOf, Below, Sound};
@@ -18,7 +19,8 @@ ghost use Rattle.slices.specs.Parts.{Decides};
 ghost use Rattle.parts.specs.Side.{both, cellIn, markIn, side, Side};
 ghost use Rattle.parts.specs.Kinds.{pairOf, stretch, Level, KindAt, Kinds, Most, Column, Used, ColumnsOf};
 ghost use Rattle.parts.specs.Parts.{First, Named, Renamed, Alike, Agree};
-ghost use Rattle.parts.specs.Signs.{signs, Targets, Steady, Stayed};
+ghost use Rattle.parts.specs.Rows.{rowBytes, Rows};
+ghost use Rattle.parts.specs.Signs.{signs, Gap, Sources, Noted, Steady, Stayed};
 ghost use Rattle.parts.specs.Round.{Chain, Opened, Births};
 ghost use Rattle.parts.specs.Refined.{Refined, Climbs, Climbed};
 
@@ -218,35 +220,122 @@ fn agree(
     true
 }
 
-// The least state that agrees with q, which does not begin its part; from the state that does, link leads to all below q that begin new parts within it.
-fn place(
+// The least state that agrees with q, found by trying all of its part.
+fn scan(
     a: &[u8],
     b: &[u8],
     left: &[u8; Machine::BYTES],
     right: &[u8; Machine::BYTES],
     count: usize,
     part: &[u16; STATES],
-    link: &[u16; STATES],
     q: usize,
 ) -> usize
     requires { ⌜ Sound (now a) × Sound (now b) ⌝ }
     requires { ⌜ ColumnsOf (now a) (now b) (now left) (now right) count ⌝ }
-    requires { ⌜ (q < statesOf (now a) + statesOf (now b)) × First (Alike (now part)) q (getD (now part) q 0) × (getD (now part) q 0 < q) ⌝ }
+    requires { ⌜ (q < statesOf (now a) + statesOf (now b)) × First (Alike (now part)) q (getD (now part) q 0) ⌝ }
+    ensures { λ r. ⌜ First (Agree ((both (now (a .entry)) (now (b .entry))) .next) (now (part .entry))) q r ⌝ }
+{
+    let mut p = part[q] as usize;
+    while p < q {
+        if part[p] == part[q] {
+            if agree(a, b, left, right, count, part, p, q) {
+                return p;
+            }
+        }
+        p += 1;
+    }
+    q
+}
+
+// How many cells there is room for in rows. Most pairs of machines have fewer.
+const ROWS: usize = 2048;
+
+// Whether each byte leads p and q, which lie in one part, into one part, by their rows.
+fn agree_rows(
+    a: &[u8],
+    b: &[u8],
+    left: &[u8; Machine::BYTES],
+    right: &[u8; Machine::BYTES],
+    count: usize,
+    rows: &[u8; ROWS],
+    part: &[u16; STATES],
+    p: usize,
+    q: usize,
+) -> bool
+    requires { ⌜ ColumnsOf (now a) (now b) (now left) (now right) count ⌝ }
+    requires { ⌜ Rows (now a) (now b) (now left) (now right) count (now rows) (q + 1) ⌝ }
+    requires { ⌜ (p ≤ q) × Alike (now part) p q ⌝ }
+    ensures { λ r. ⌜ Decides r (Agree ((both (now (a .entry)) (now (b .entry))) .next) (now (part .entry)) p q) ⌝ }
+{
+    let x = p * count;
+    let y = q * count;
+    let mut i: usize = 0;
+    while i < count {
+        if part[rows[x + i] as usize] != part[rows[y + i] as usize] {
+            return false;
+        }
+        i += 1;
+    }
+    true
+}
+
+// The least state that agrees with q, which does not begin its part; from the state that does, link leads to all below q that begin new parts within it.
+fn walk(
+    a: &[u8],
+    b: &[u8],
+    left: &[u8; Machine::BYTES],
+    right: &[u8; Machine::BYTES],
+    count: usize,
+    rows: &[u8; ROWS],
+    part: &[u16; STATES],
+    link: &[u16; STATES],
+    q: usize,
+) -> usize
+    requires { ⌜ ColumnsOf (now a) (now b) (now left) (now right) count ⌝ }
+    requires { ⌜ Rows (now a) (now b) (now left) (now right) count (now rows) (q + 1) ⌝ }
+    requires { ⌜ (q < stateLimit + stateLimit) × First (Alike (now part)) q (getD (now part) q 0) × (getD (now part) q 0 < q) ⌝ }
     requires { ⌜ Chain (Agree ((both (now a) (now b)) .next) (now part)) (now part) (now link) q ⌝ }
     ensures { λ r. ⌜ First (Agree ((both (now (a .entry)) (now (b .entry))) .next) (now (part .entry))) q r ⌝ }
 {
     let h = part[q] as usize;
-    if agree(a, b, left, right, count, part, h, q) {
+    if agree_rows(a, b, left, right, count, rows, part, h, q) {
         return h;
     }
     let mut p = link[h] as usize;
     while 0 < p {
-        if agree(a, b, left, right, count, part, p, q) {
+        if agree_rows(a, b, left, right, count, rows, part, p, q) {
             return p;
         }
         p = link[p] as usize;
     }
     q
+}
+
+// The least state that agrees with q, which does not begin its part; `few`: there are rows.
+fn place(
+    a: &[u8],
+    b: &[u8],
+    left: &[u8; Machine::BYTES],
+    right: &[u8; Machine::BYTES],
+    count: usize,
+    few: bool,
+    rows: &[u8; ROWS],
+    part: &[u16; STATES],
+    link: &[u16; STATES],
+    q: usize,
+) -> usize
+    requires { ⌜ Sound (now a) × Sound (now b) ⌝ }
+    requires { ⌜ ColumnsOf (now a) (now b) (now left) (now right) count ⌝ }
+    requires { ⌜ (few ≡ true → Rows (now a) (now b) (now left) (now right) count (now rows) (q + 1)) ⌝ }
+    requires { ⌜ (q < statesOf (now a) + statesOf (now b)) × First (Alike (now part)) q (getD (now part) q 0) × (getD (now part) q 0 < q) ⌝ }
+    requires { ⌜ Chain (Agree ((both (now a) (now b)) .next) (now part)) (now part) (now link) q ⌝ }
+    ensures { λ r. ⌜ First (Agree ((both (now (a .entry)) (now (b .entry))) .next) (now (part .entry))) q r ⌝ }
+{
+    if few {
+        walk(a, b, left, right, count, rows, part, link, q)
+    } else {
+        scan(a, b, left, right, count, part, q)
+    }
 }
 
 // How many signs there are: a state has the one that its number leaves.
@@ -259,60 +348,102 @@ fn sign(q: usize) -> u64
     1u64 << (q % SIGNS)
 }
 
-// The signs of the states to which the kinds lead q.
-fn targets(
+// The next state from q on whose sign is in s, n if none below n has it.
+fn seek(s: u64, q: usize, n: usize) -> usize
+    requires { ⌜ (q ≤ n) × (n ≤ stateLimit + stateLimit) ⌝ }
+    ensures { λ r. ⌜ (q ≤ r) × (r ≤ n) × Gap s q r ⌝ }
+{
+    let mut x = q;
+    while x < n {
+        let rest = s >> (x % SIGNS);
+        if rest % 2 == 1 {
+            return x;
+        }
+        if rest != 0 {
+            let y = x + u64::trailing_zeros(rest) as usize;
+            if y < n {
+                return y;
+            }
+            return n;
+        }
+        x += SIGNS - x % SIGNS;
+    }
+    n
+}
+
+// Notes for each kind the cell of the state q, in its row if there are rows, and the sign of q with the state that it leads to.
+fn note(
     a: &[u8],
     b: &[u8],
     left: &[u8; Machine::BYTES],
     right: &[u8; Machine::BYTES],
     count: usize,
     q: usize,
-) -> u64
+    few: bool,
+    rows: &mut [u8; ROWS],
+    from: &mut [u64; STATES],
+)
     requires { ⌜ Sound (now a) × Sound (now b) ⌝ }
     requires { ⌜ ColumnsOf (now a) (now b) (now left) (now right) count × (q < statesOf (now a) + statesOf (now b)) ⌝ }
-    ensures { λ r. ⌜ Targets ((both (now (a .entry)) (now (b .entry))) .next) q r ⌝ }
+    requires { ⌜ (length (now rows) ≡ rowBytes) × (length (now from) ≡ stateLimit + stateLimit) ⌝ }
+    requires { ⌜ (few ≡ true → ((q + 1) * count ≤ rowBytes) × Rows (now a) (now b) (now left) (now right) count (now rows) q) ⌝ }
+    ensures { λ _. ⌜ (few ≡ true → Rows (now (a .entry)) (now (b .entry)) (now (left .entry)) (now (right .entry)) count (now (rows .exit)) (q + 1)) ⌝ }
+    ensures { λ _. ⌜ Noted ((both (now (a .entry)) (now (b .entry))) .next) q (now (from .entry)) (now (from .exit)) ⌝ }
+    ensures { λ _. ⌜ (length (now (rows .exit)) ≡ rowBytes) × (length (now (from .exit)) ≡ stateLimit + stateLimit) ⌝ }
 {
-    let mut all: u64 = 0;
+    let s = sign(q);
+    let x = q * count;
     let mut i: usize = 0;
     while i < count {
-        all = all | sign(cell(a, b, left, right, q, i));
+        let y = cell(a, b, left, right, q, i);
+        if few {
+            rows[x + i] = y as u8;
+        }
+        from[y] = from[y] | s;
         i += 1;
     }
-    all
 }
 
-// Notes the targets of the first n states.
-fn note_targets(
+// Notes the first n states, where nothing is noted.
+fn note_all(
     a: &[u8],
     b: &[u8],
     left: &[u8; Machine::BYTES],
     right: &[u8; Machine::BYTES],
     count: usize,
     n: usize,
-    to: &mut [u64; STATES],
+    few: bool,
+    rows: &mut [u8; ROWS],
+    from: &mut [u64; STATES],
 )
-    requires { ⌜ Side (now a) (now b) n × ColumnsOf (now a) (now b) (now left) (now right) count × (length (now to) ≡ stateLimit + stateLimit) ⌝ }
-    ensures { λ _. ⌜ ((q : ℕ) → q < n → Targets ((both (now (a .entry)) (now (b .entry))) .next) q (getD (now (to .exit)) q 0)) ⌝ }
+    requires { ⌜ Side (now a) (now b) n × ColumnsOf (now a) (now b) (now left) (now right) count ⌝ }
+    requires { ⌜ (length (now rows) ≡ rowBytes) × (length (now from) ≡ stateLimit + stateLimit) ⌝ }
+    requires { ⌜ (few ≡ true → n * count ≤ rowBytes) ⌝ }
+    ensures { λ _. ⌜ (few ≡ true → Rows (now (a .entry)) (now (b .entry)) (now (left .entry)) (now (right .entry)) count (now (rows .exit)) n) ⌝ }
+    ensures { λ _. ⌜ Sources ((both (now (a .entry)) (now (b .entry))) .next) n (now (from .exit)) ⌝ }
 {
     let mut q: usize = 0;
     while q < n {
-        to[q] = targets(a, b, left, right, count, q);
+        note(a, b, left, right, count, q, few, rows, from);
         q += 1;
     }
 }
 
-// One round, from part to next, which is the same before, with the births of round r; whether it opened a part. `moved` has the signs of the states whose part was
-// another before the last round, and then of those whose part is another now. A state agrees still with the one that begins its part where nothing that either leads
-// to has moved.
+// One round, from part to next, which is the same before, with the births of round r; whether it opened a part. `touched` has the signs of the states that a byte leads
+// to one that moved in the last round, and then in this one. A state agrees still with the one that begins its part where neither is touched; so where one that begins
+// a part is, all that come after it are looked at. `link` is 0 before.
 fn round(
     a: &[u8],
     b: &[u8],
     left: &[u8; Machine::BYTES],
     right: &[u8; Machine::BYTES],
     count: usize,
+    few: bool,
+    rows: &[u8; ROWS],
+    from: &[u64; STATES],
     part: &[u16; STATES],
-    to: &[u64; STATES],
-    moved: &mut u64,
+    touched: &mut u64,
+    link: &mut [u16; STATES],
     next: &mut [u16; STATES],
     parent: &mut [u16; STATES],
     born: &mut [u16; STATES],
@@ -321,28 +452,30 @@ fn round(
 ) -> bool
     requires { ⌜ Side (now a) (now b) n ⌝ }
     requires { ⌜ ColumnsOf (now a) (now b) (now left) (now right) count ⌝ }
+    requires { ⌜ (few ≡ true → Rows (now a) (now b) (now left) (now right) count (now rows) n) ⌝ }
     requires { ⌜ Named (Alike (now part)) (now part) n ⌝ }
     requires { ⌜ (length (now next) ≡ stateLimit + stateLimit) × (length (now parent) ≡ stateLimit + stateLimit) × (length (now born) ≡ stateLimit + stateLimit) ⌝ }
-    requires { ⌜ ((q : ℕ) → q < n → Targets ((both (now a) (now b)) .next) q (getD (now to) q 0)) × Steady ((both (now a) (now b)) .next) (now part) n (now moved) ⌝ }
+    requires { ⌜ Steady ((both (now a) (now b)) .next) (now part) n (now touched) ⌝ }
     requires { ⌜ ((q : ℕ) → q < n → getD (now next) q 0 ≡ getD (now part) q 0) ⌝ }
+    requires { ⌜ (length (now link) ≡ stateLimit + stateLimit) × ((x : ℕ) → getD (now link) x 0 ≡ 0) ⌝ }
     ensures { λ z. ⌜ Renamed (Agree ((both (now (a .entry)) (now (b .entry))) .next) (now (part .entry))) (now (next .entry)) (now (next .exit)) n ⌝ }
     ensures { λ z. ⌜ Births (now (part .entry)) (now (next .exit)) (now (parent .entry)) (now (parent .exit)) (now (born .entry)) (now (born .exit)) r n ⌝ }
-    ensures { λ z. ⌜ Stayed (now (part .entry)) (now (next .exit)) n (now (moved .exit)) ⌝ }
+    ensures { λ z. ⌜ Stayed (now (part .entry)) (now (next .exit)) (now (from .entry)) n (now (touched .exit)) ⌝ }
     ensures { λ z. ⌜ Decides z (Opened (now (part .entry)) (now (next .exit)) n) ⌝ }
+    ensures { λ z. ⌜ (length (now (link .exit)) ≡ stateLimit + stateLimit) × ((x : ℕ) → n ≤ x → getD (now (link .exit)) x 0 ≡ 0) ⌝ }
 {
-    let before = *moved;
-    let mut link = [0u16; STATES];
     let mut opened = false;
     let mut stirred: u64 = 0;
-    let mut q: usize = 0;
+    let mut seen = *touched;
+    let mut q = seek(seen, 0, n);
     while q < n {
         let h = part[q] as usize;
-        if (to[q] | to[h]) & before != 0 {
-            if h < q {
-                let p = place(a, b, left, right, count, part, &link, q);
+        if h < q {
+            if (sign(q) | sign(h)) & *touched != 0 {
+                let p = place(a, b, left, right, count, few, rows, part, link, q);
                 if p != h {
                     next[q] = p as u16;
-                    stirred = stirred | sign(q);
+                    stirred = stirred | from[q];
                     if p == q {
                         link[q] = link[h];
                         link[h] = q as u16;
@@ -352,21 +485,25 @@ fn round(
                     }
                 }
             }
+        } else {
+            seen = u64::MAX;
         }
-        q += 1;
+        q = seek(seen, q + 1, n);
     }
-    *moved = stirred;
+    *touched = stirred;
     opened
 }
 
-// Copies the parts of the first n states.
-fn adopt(from: &[u16; STATES], part: &mut [u16; STATES], n: usize)
-    requires { ⌜ (n ≤ stateLimit + stateLimit) × (length (now part) ≡ stateLimit + stateLimit) ⌝ }
+// Copies the parts of the first n states, and makes their links 0.
+fn adopt(from: &[u16; STATES], part: &mut [u16; STATES], link: &mut [u16; STATES], n: usize)
+    requires { ⌜ (n ≤ stateLimit + stateLimit) × (length (now part) ≡ stateLimit + stateLimit) × (length (now link) ≡ stateLimit + stateLimit) ⌝ }
     ensures { λ _. ⌜ Written n (λ q. getD (now (from .entry)) q 0) (now (part .entry)) (now (part .exit)) ⌝ }
+    ensures { λ _. ⌜ Written n (λ q. 0) (now (link .entry)) (now (link .exit)) ⌝ }
 {
     let mut q: usize = 0;
     while q < n {
         part[q] = from[q];
+        link[q] = 0;
         q += 1;
     }
 }
@@ -391,11 +528,14 @@ pub fn refine(
     ensures { λ r. ⌜ (length (now (part .exit)) ≡ stateLimit + stateLimit) × (length (now (parent .exit)) ≡ stateLimit + stateLimit) × (length (now (born .exit)) ≡ stateLimit + stateLimit) ⌝ }
 {
     begin(a, b, n, part);
-    let mut to = [0u64; STATES];
-    note_targets(a, b, left, right, count, n, &mut to);
-    let mut moved: u64 = u64::MAX;
+    let few = n * count <= ROWS;
+    let mut rows = [0u8; ROWS];
+    let mut from = [0u64; STATES];
+    note_all(a, b, left, right, count, n, few, &mut rows, &mut from);
+    let mut touched: u64 = u64::MAX;
+    let mut link = [0u16; STATES];
     let mut next = [0u16; STATES];
-    adopt(part, &mut next, n);
+    adopt(part, &mut next, &mut link, n);
     let mut r: usize = 0;
     while round(
         a,
@@ -403,16 +543,19 @@ pub fn refine(
         left,
         right,
         count,
+        few,
+        &rows,
+        &from,
         part,
-        &to,
-        &mut moved,
+        &mut touched,
+        &mut link,
         &mut next,
         parent,
         born,
         n,
         (r + 1) as u16,
     ) {
-        adopt(&next, part, n);
+        adopt(&next, part, &mut link, n);
         r += 1;
     }
     r

@@ -1,20 +1,22 @@
 -- The numbers of `Bits` have the bits that the predicates of `Sets` say: one law for each of the five. A union is `or`, `given` is `and`.
 --   has-or, has-half, has-pow, has-zero, has-ones, has-given: the bits of a union, of a half, of a power of 2, of 0, of ones alone, of what is given or not
+--   has-shr, trailing-none, trailing-one, has-small: the bits after a shift; the lowest bit that is 1; none is beyond the length
 --   null-is, first-is, last-is, follow-is, holders-is: what each number decides
 use mathlib.Core.Path.{_≡_, refl, sym, ap, _∙_}
-use mathlib.Core.Bool.{Bool, true, false, _&&_, _||_}
+use mathlib.Core.Bool.{Bool, true, false, _&&_, _||_, false≢true}
 use mathlib.Core.Logic.{_⊎_, inl, inr}
 use Prim.Native.Nat.{ℕ, zero, suc, _+_, _-_, _/_, _%_, _^_, _<_}
-use native.Mathlib.Nat.{div-one, pow-suc, pow-succ', div-div-eq-div-mul, mul-div-cancel, mul-mod-left, div-eq-of-lt, mod-lt}
+use native.Mathlib.Nat.{div-one, pow-suc, pow-succ', div-div-eq-div-mul, mul-div-cancel, mul-mod-left, div-eq-of-lt, mod-lt, lt-of-lt-of-le}
 use native.Mathlib.Omega.{arith}
 use borrow.Author.Tests.{eq-eqb}
 use lib.Dec.{eqb, eqb·suc-suc, eqb·zero-suc, eqb·suc-zero, lit<}
-use lib.Pow.{pow-lt, pow-pos}
+use lib.Pow.{pow-lt, pow-pos, pow-mono, shr-shr}
 use lib.Bits.{bitOr, or-shr, or-mod}
+use lib.Count.{trailingZeros}
 use Rattle.scope.specs.Re.{Re, none, eps, one, alt, cat, star, size}
 use Rattle.scope.specs.Sets.{Null, First, Last, Follow, At}
 use Rattle.scope.specs.Bits.{has, given, null, first, last, follow, holders}
-use Rattle.scope.proofs.Tests.{Tests, never, always, or, and, amounts, itself, equals}
+use Rattle.scope.proofs.Tests.{split, Tests, never, always, or, and, amounts, itself, equals}
 
 -- ---- bits
 
@@ -58,6 +60,39 @@ has-ones (suc n) zero h = eq-eqb ((2 ^ suc n - 1) / 1 % 2) 1 (omega (arith, pow-
 has-ones (suc n) (suc k) h =
     let half : (2 ^ suc n - 1) / 2 ≡ 2 ^ n - 1 = omega (arith, pow-suc 2 n, pow-pos n) in
     has-half (2 ^ suc n - 1) k ∙ ap (λ (m : ℕ). has m k) half ∙ has-ones n k (omega arith)
+
+-- a number without its lowest j bits
+pub has-shr : (n j k : ℕ) → has (n / 2 ^ j) k ≡ has n (j + k)
+has-shr n j k = ap (λ (m : ℕ). eqb (m % 2) 1) (shr-shr n j k)
+
+low : (n d : ℕ) → n % 2 ≡ d → has n 0 ≡ eqb d 1
+low n d e = rw (div-one, e)
+
+-- below the lowest bit that is 1
+pub trailing-none : (k n j : ℕ) → j < trailingZeros k n → has n j ≡ false
+unfolding trailingZeros
+trailing-none zero n j h = absurd (omega arith)
+trailing-none (suc k) n zero h = elim (digit n) [ inl e ↦ low n 0 e | inr e ↦ absurd (omega (arith, rw e at h)) ]
+trailing-none (suc k) n (suc j) h = elim (digit n) [
+  | inl e ↦ has-half n j ∙ trailing-none k (n / 2) j (omega (arith, rw e at h))
+  | inr e ↦ absurd (omega (arith, rw e at h))
+]
+
+-- and that bit
+pub trailing-one : (k n : ℕ) → 0 < n → n < 2 ^ k → has n (trailingZeros k n) ≡ true
+unfolding trailingZeros
+trailing-one zero n h l = absurd (omega arith)
+trailing-one (suc k) n h l = elim (digit n) [
+  | inl e ↦ (rw e (has-half n (trailingZeros k (n / 2)) ∙ trailing-one k (n / 2) (omega arith) (omega (arith, pow-suc 2 k))))
+  | inr e ↦ (rw e (low n 1 e))
+]
+
+-- a bit that is 1 stands below the length
+pub has-small : (n j k : ℕ) → has n j ≡ true → n < 2 ^ k → j < k
+has-small n j k t l = elim (split j k) [
+  | inl h ↦ h
+  | inr h ↦ absurd (false≢true (sym (ap (λ (m : ℕ). eqb (m % 2) 1) (div-eq-of-lt (lt-of-lt-of-le l (pow-mono h)))) ∙ t))
+]
 
 pub has-given : (c : Bool) (s k : ℕ) → has (given c s) k ≡ (c && has s k)
 has-given true s k = refl

@@ -1,4 +1,5 @@
 -- The bytes of a room: n, k, the classes, the used marks and cells, and the rest of marks and cells. Where that rest is 0, the used parts are the whole room.
+--   flat-in: a cell is among those of n rows
 --   cell-used: the cell that a state reads for a byte is a used one
 --   cells-fit: the used cells end within the room
 --   SameBytes a b: the first 8,578 bytes of two rooms are equal
@@ -8,17 +9,21 @@ use Prim.Native.Nat.{ℕ, _+_, _-_, _*_, _≤_, _<_}
 use mathlib.Core.Path.{_≡_}
 use mathlib.Core.Logic.{_⊎_, inl, inr}
 use mathlib.Core.List.{List}
-use native.Mathlib.Nat.{mul-le-mul, mul-le-mul-right}
+use native.Mathlib.Nat.{suc-mul, mul-le-mul, mul-le-mul-right}
 use native.Mathlib.Omega.{arith}
 use lib.ListN.{getD}
 use Rattle.scope.specs.Limits.{byteValues, classesAt, marksAt, cellsAt, roomBytes}
 use Rattle.scope.specs.Room.{statesOf, classesOf, classOf, markOf, Below, Sound}
 use Rattle.scope.proofs.Tests.{split}
 
+-- a cell is among those of n rows
+pub flat-in : (n k q c : ℕ) → q < n → c < k → q * k + c < n * k
+flat-in n k q c a b = omega (arith, mul-le-mul-right k a, suc-mul q k)
+
 module _ (m : List ℕ) (s : Sound m) where
   -- the cell for a state and a byte's class is among the n·k used ones
   pub cell-used : (q b : ℕ) → q < statesOf m → b < byteValues → q * classesOf m + classOf m b < statesOf m * classesOf m
-  cell-used q b h k = omega (arith, mul-le-mul-right (classesOf m) h, s .classes (classesAt + b) (omega arith) (omega arith))
+  cell-used q b h k = flat-in (statesOf m) (classesOf m) q (classOf m b) h (s .classes (classesAt + b) (omega arith) (omega arith))
 
   -- 128 states and 64 classes fill the room
   pub cells-fit : cellsAt + statesOf m * classesOf m ≤ roomBytes

@@ -1,32 +1,52 @@
--- The states below q have their new parts, the chains of those that begin one, the births of those that open one, and the signs of those that moved.
+-- The states below q have their new parts, the chains of those that begin one, the births of those that open one, and the signs of those that lead to one that moved.
 use mathlib.Core.Path.{_≡_, _∙_}
 use mathlib.Core.Logic.{⊎-elim}
-use Prim.Native.Nat.{_≤_, _<_, _-_}
+use Prim.Native.Nat.{_+_, _-_, _≤_, _<_}
 use native.Mathlib.Omega.{arith}
 use borrow.Author.Needs.{needs}
 use lib.ListN.{getD}
 use Rattle.parts.specs.Side.{both}
-use Rattle.parts.specs.Parts.{Agree}
-use Rattle.parts.specs.Signs.{Stayed}
-use Rattle.parts.proofs.Passes.{Passed, passed-none, passed-stays, passed-joined, passed-opened, place-still}
-use Rattle.parts.proofs.Signs.{calm-left, calm-right, stayed-none, stayed-still, stayed-moved}
+use Rattle.parts.proofs.Passes.{passed-none, passed-stays, passed-joined, passed-opened, place-still}
+use Rattle.parts.proofs.Rows.{rows-less}
+use Rattle.parts.proofs.Signs.{signs-none, stayed-none, stayed-still, stayed-moved, seen-none, seen-all, seen-past}
+use Rattle.parts.proofs.Gaps.{Come, come-gap}
 use Rattle.parts.proofs.round.Statement.{statement}
 use Rattle.parts.proofs.round.Tie as tie
 
 abbrev Inv-loop : tie.InvT-loop
-Inv-loop a b left right count part to moved next₀ parent₀ born₀ n r before link₀ opened₀ stirred₀ q₀ next parent born link opened stirred q =
-    (q ≤ n) × (Passed (Agree ((both a b) .next) part) part next₀ next link parent₀ parent born₀ born r opened q × Stayed part next q stirred)
+Inv-loop a b left right count few rows from part touched link₀ next₀ parent₀ born₀ n r opened₀ stirred₀ seen₀ q₀ link next parent born opened stirred seen q =
+    (q ≤ n) × Come ((both a b) .next) part next₀ next link parent₀ parent born₀ born from r opened stirred touched seen q
 
 abbrev μ-loop : tie.MeasureT-loop
-μ-loop a b left right count part to moved next₀ parent₀ born₀ n r before link₀ opened₀ stirred₀ q₀ next parent born link opened stirred q = n - q
+μ-loop a b left right count few rows from part touched link₀ next₀ parent₀ born₀ n r opened₀ stirred₀ seen₀ q₀ link next parent born opened stirred seen q = n - q
 
 -- the state q is below 256, and the name of its part no greater
-low : (c : tie.In-loop Inv-loop μ-loop) → (c .before .loop .q < 256) × (getD (c .before .before .before .before .before .args .part .now) (c .before .loop .q) 0 ≤ c .before .loop .q)
-low c = let d = c .before .before .before .before .before .pre in
-    (omega (arith, c .loop-test .taken, d .0 .few, d .0 .left .few-states, d .0 .right .few-states), d .1 .1 .0 (c .before .loop .q) (c .loop-test .taken) .low)
+low : (c : tie.In-loop Inv-loop μ-loop) → (c .before .loop .q < 256) × (getD (c .before .before .before .before .before .before .args .part .now) (c .before .loop .q) 0 ≤ c .before .loop .q)
+low c = let d = c .before .before .before .before .before .before .pre in
+    (omega (arith, c .loop-test .taken, d .0 .few, d .0 .left .few-states, d .0 .right .few-states), d .1 .1 .1 .0 (c .before .loop .q) (c .loop-test .taken) .low)
+
+-- there are at most 256 states
+few : (c : tie.After-row-known Inv-loop μ-loop) → c .before .before .before .args .n ≤ 256
+few c = let d = c .before .before .before .pre .0 in omega (arith, d .few, d .left .few-states, d .right .few-states)
+
+seek-requires : tie.Need-seek-requires Inv-loop μ-loop
+seek-requires c κs = (omega arith, few c)
 
 loop-holds : tie.Need-loop-holds Inv-loop μ-loop
-loop-holds c = (search needs, (passed-none _ _ _ _ _ _, stayed-none (c .before .before .before .args .part .now) (c .before .before .before .args .next .now)))
+loop-holds c = let a = c .before .before .before .before .args in
+    let d = c .before .before .before .before .pre .1 .1 .1 in
+    let e = c .seek .ensures in (
+      e .1,
+      come-gap (few (c .before)) (d .1 .0 .0) (d .0) (d .1 .1 .0) (d .1 .1 .1 .0) e
+          (record { passed = passed-none _ _ _ _ _ _ _ (d .1 .1 .1 .1 .0) (d .1 .1 .1 .1 .1); stayed = stayed-none (a .part .now) (a .next .now) (a .from .now); watched = seen-none (a .part .now) (a .touched .now) }),
+    )
+
+place-requires : tie.Need-place-requires Inv-loop μ-loop
+place-requires c κs =
+    let d = c .before .before .before .before .before .before .before .before .before .before .before .before .before .pre in
+    let l = c .before .before .before .before .before .before .before .before .loop in
+    let h = c .before .before .before .before .before .before .before .loop-test .taken in
+    ((d .0 .left, d .0 .right), (d .1 .0, ((λ e. rows-less (d .1 .1 .0 e) (l .q + 1) (omega (arith, h))), ((omega (arith, h, d .0 .few), d .1 .1 .1 .0 (l .q) h, c .before .before .before .before .before .if1 .taken), l .inv .1 .passed .chain))))
 
 mul-h : tie.Need-mul-h Inv-loop μ-loop
 mul-h c = omega (arith, low c)
@@ -37,111 +57,116 @@ element-copy-out-h c = omega (arith, low c)
 cast-h : tie.Need-cast-h Inv-loop μ-loop
 cast-h c = omega (arith, low (c .before))
 
-mul-if1 : tie.Need-mul-if1 Inv-loop μ-loop
-mul-if1 c = omega (arith, low (c .before))
-
-element-copy-out-if1 : tie.Need-element-copy-out-if1 Inv-loop μ-loop
-element-copy-out-if1 c = omega (arith, low (c .before))
-
-mul-if1-2 : tie.Need-mul-if1-2 Inv-loop μ-loop
-mul-if1-2 c = omega (arith, low (c .before .before))
-
-element-copy-out-if1-2 : tie.Need-element-copy-out-if1-2 Inv-loop μ-loop
-element-copy-out-if1-2 c = omega (arith, low (c .before .before))
-
-place-requires : tie.Need-place-requires Inv-loop μ-loop
-place-requires c κs =
-    let d = c .before .before .before .before .before .before .before .before .before .before .before .pre in
-    let l = c .before .before .before .before .before .before .before .loop in
-    let h = c .before .before .before .before .before .before .loop-test .taken in
-    ((d .0 .left, d .0 .right), (d .1 .0, ((omega (arith, h, d .0 .few), d .1 .1 .0 (l .q) h, c .before .if2 .taken), l .inv .1 .0 .chain)))
-
 cast-next : tie.Need-cast-next Inv-loop μ-loop
-cast-next c = omega (arith, c .before .place .ensures .low, low (c .before .before .before .before .before .before .before .before))
+cast-next c = omega (arith, c .before .place .ensures .low, low (c .before .before .before .before .before .before .before .before .before))
 
 mul-next : tie.Need-mul-next Inv-loop μ-loop
-mul-next c = omega (arith, low (c .before .before .before .before .before .before .before .before))
+mul-next c = omega (arith, low (c .before .before .before .before .before .before .before .before .before))
 
 element-write-next : tie.Need-element-write-next Inv-loop μ-loop
-element-write-next c = omega (arith, low (c .before .before .before .before .before .before .before .before))
+element-write-next c = omega (arith, low (c .before .before .before .before .before .before .before .before .before))
+
+mul-stirred : tie.Need-mul-stirred Inv-loop μ-loop
+mul-stirred c = omega (arith, low (c .before .before .before .before .before .before .before .before .before))
+
+element-copy-out-stirred : tie.Need-element-copy-out-stirred Inv-loop μ-loop
+element-copy-out-stirred c = omega (arith, low (c .before .before .before .before .before .before .before .before .before))
 
 mul-link : tie.Need-mul-link Inv-loop μ-loop
-mul-link c = omega (arith, low (c .before .before .before .before .before .before .before .before .before .before))
+mul-link c = omega (arith, low (c .before .before .before .before .before .before .before .before .before .before .before))
 
-array-read-link : tie.Need-array-read-link Inv-loop μ-loop
-array-read-link c = omega (arith, low (c .before .before .before .before .before .before .before .before .before .before))
+element-copy-out-link : tie.Need-element-copy-out-link Inv-loop μ-loop
+element-copy-out-link c = omega (arith, low (c .before .before .before .before .before .before .before .before .before .before .before))
 
 mul-link-2 : tie.Need-mul-link-2 Inv-loop μ-loop
-mul-link-2 c = omega (arith, low (c .before .before .before .before .before .before .before .before .before .before))
+mul-link-2 c = omega (arith, low (c .before .before .before .before .before .before .before .before .before .before .before .before))
 
-array-write-link : tie.Need-array-write-link Inv-loop μ-loop
-array-write-link c = omega (arith, low (c .before .before .before .before .before .before .before .before .before .before))
+element-write-link : tie.Need-element-write-link Inv-loop μ-loop
+element-write-link c = omega (arith, low (c .before .before .before .before .before .before .before .before .before .before .before .before))
 
 cast-link : tie.Need-cast-link Inv-loop μ-loop
-cast-link c = omega (arith, low (c .before .before .before .before .before .before .before .before .before .before))
+cast-link c = omega (arith, low (c .before .before .before .before .before .before .before .before .before .before .before .before))
 
 mul-link-3 : tie.Need-mul-link-3 Inv-loop μ-loop
-mul-link-3 c = omega (arith, low (c .before .before .before .before .before .before .before .before .before .before))
+mul-link-3 c = omega (arith, low (c .before .before .before .before .before .before .before .before .before .before .before .before))
 
-array-write-link-2 : tie.Need-array-write-link-2 Inv-loop μ-loop
-array-write-link-2 c = omega (arith, low (c .before .before .before .before .before .before .before .before .before .before))
+element-write-link-2 : tie.Need-element-write-link-2 Inv-loop μ-loop
+element-write-link-2 c = omega (arith, low (c .before .before .before .before .before .before .before .before .before .before .before .before))
 
 cast-parent : tie.Need-cast-parent Inv-loop μ-loop
-cast-parent c = omega (arith, low (c .before .before .before .before .before .before .before .before .before .before))
+cast-parent c = omega (arith, low (c .before .before .before .before .before .before .before .before .before .before .before .before))
 
 mul-parent : tie.Need-mul-parent Inv-loop μ-loop
-mul-parent c = omega (arith, low (c .before .before .before .before .before .before .before .before .before .before))
+mul-parent c = omega (arith, low (c .before .before .before .before .before .before .before .before .before .before .before .before))
 
 element-write-parent : tie.Need-element-write-parent Inv-loop μ-loop
-element-write-parent c = omega (arith, low (c .before .before .before .before .before .before .before .before .before .before))
+element-write-parent c = omega (arith, low (c .before .before .before .before .before .before .before .before .before .before .before .before))
 
 mul-born : tie.Need-mul-born Inv-loop μ-loop
-mul-born c = omega (arith, low (c .before .before .before .before .before .before .before .before .before .before))
+mul-born c = omega (arith, low (c .before .before .before .before .before .before .before .before .before .before .before .before))
 
 element-write-born : tie.Need-element-write-born Inv-loop μ-loop
-element-write-born c = omega (arith, low (c .before .before .before .before .before .before .before .before .before .before))
+element-write-born c = omega (arith, low (c .before .before .before .before .before .before .before .before .before .before .before .before))
+
+-- the state q is done
+come : (c : tie.Joined1 Inv-loop μ-loop) → let a = c .before .before .before .before .before .before .before .before .args in let i = c .if1 in
+    Come ((both (a .a .now) (a .b .now)) .next) (a .part .now) (a .next .now) (i .next) (i .link) (a .parent .now) (i .parent) (a .born .now) (i .born) (a .from .now) (a .r) (i .opened) (i .stirred) (a .touched .now) (i .seen) (c .before .before .before .loop .q + 1)
+come c = let a = c .before .before .before .before .before .before .before .before .args in
+    let d = c .before .before .before .before .before .before .before .before .pre .1 .1 .1 in
+    let g = d .1 .0 in
+    let l = c .before .before .before .loop in
+    let v = l .inv .1 in
+    let p = v .passed in
+    let t = c .before .before .loop-test .taken in
+    let z = low (c .before .before) in
+    let f = d .0 (l .q) t in
+    let same = d .1 .1 .1 .0 (l .q) t in
+    let next = (both (a .a .now) (a .b .now)) .next in
+    let still : getD (l .next) (l .q) 0 ≡ getD (a .part .now) (l .q) 0 = p .named .kept (l .q) (omega arith) ∙ same in
+    ⊎-elim
+    (λ w. rw (w .11, w .12, w .13, w .14, w .15, w .16, w .17, w .9 .taken)
+    (record { passed = passed-opened _ _ _ _ _ _ _ _ _ _ _ _ (z .0) (g .0) p (rw (w .9 .taken) at (w .6 .ensures)) (w .0 .taken) (f .like) (g .1) (g .2); stayed = stayed-moved (v .stayed) (l .q); watched = seen-past (v .watched) (w .0 .taken) }))
+    (⊎-elim
+    (λ w. rw (w .10, w .11, w .12, w .13, w .14, w .15, w .16)
+    (record { passed = passed-joined _ _ _ _ _ _ _ _ _ _ _ _ (z .0) (g .0) p (w .6 .result) (w .6 .ensures) (w .9 .left) (z .1); stayed = stayed-moved (v .stayed) (w .6 .result); watched = seen-past (v .watched) (w .0 .taken) }))
+    (⊎-elim
+    (λ w. rw (w .8, w .9, w .10, w .11, w .12, w .13, w .14)
+    (record { passed = passed-stays _ _ _ _ _ _ _ _ _ _ _ _ (z .0) (g .0) p same (rw (w .7 .left) at (w .6 .ensures)); stayed = stayed-still (v .stayed) still; watched = seen-past (v .watched) (w .0 .taken) }))
+    (⊎-elim
+    (λ w.
+    let (e, h) = signs-none _ _ _ _ _ (w .1 .ensures) (w .2 .ensures) (w .4 .left) in
+    rw (w .5, w .6, w .7, w .8, w .9, w .10, w .11)
+    (record {
+      passed = passed-stays _ _ _ _ _ _ _ _ _ _ _ _ (z .0) (g .0) p same (place-still next (a .part .now) (l .q) f (λ k. d .1 .1 .0 .agree (getD (a .part .now) (l .q) 0) (l .q) (omega (arith, k, t)) t (f .like) h e));
+      stayed = stayed-still (v .stayed) still;
+      watched = seen-past (v .watched) (w .0 .taken);
+    }))
+    (λ w. rw (w .1, w .2, w .3, w .4, w .5, w .6, w .7)
+    (record {
+      passed = passed-stays _ _ _ _ _ _ _ _ _ _ _ _ (z .0) (g .0) p same (place-still next (a .part .now) (l .q) f (λ e. absurd (omega (arith, e, w .0 .left))));
+      stayed = stayed-still (v .stayed) still;
+      watched = seen-all (a .part .now) (a .touched .now) (l .q + 1);
+    })))))
+    (c .if1 .came)
+
+add-seek : tie.Need-add-seek Inv-loop μ-loop
+add-seek c = omega (arith, low (c .before .before))
+
+seek-requires-2 : tie.Need-seek-requires-2 Inv-loop μ-loop
+seek-requires-2 c κs = (omega (arith, c .before .before .loop-test .taken), few (c .before .before .before .before .before))
+
+loop-less : tie.Need-loop-less Inv-loop μ-loop
+loop-less c = omega (arith, c .seek2 .ensures .0, c .before .before .before .loop-test .taken)
 
 loop-again : tie.Need-loop-again Inv-loop μ-loop
-loop-again c = let a = c .before .before .before .before .before .before .before .before .before .args in
-    let d = c .before .before .before .before .before .before .before .before .before .pre in
-    let g = d .1 .1 .1 .0 in
-    let s = d .1 .1 .1 .1 .0 in
-    let l = c .before .before .before .before .before .loop in
-    let v = l .inv .1 in
-    let t = c .before .before .before .before .loop-test .taken in
-    let z = low (c .before .before .before .before) in
-    let f = d .1 .1 .0 (l .q) t in
-    let h = getD (a .part .now) (l .q) 0 in
-    let next = (both (a .a .now) (a .b .now)) .next in
-    let x = getD (a .to .now) (l .q) 0 in
-    let y = getD (a .to .now) h 0 in
-    let same = d .1 .1 .1 .1 .1 (l .q) t in
-    let still : getD (l .next) (l .q) 0 ≡ h = v .0 .named .kept (l .q) (omega arith) ∙ same in (
-      search needs,
-      ⊎-elim
-          (λ w. rw (w .7, w .8, w .9, w .10, w .11, w .12, w .6 .taken)
-          (passed-opened _ _ _ _ _ _ _ _ _ _ _ _ (z .0) (g .0) (v .0) (rw (w .6 .taken) at (w .3 .ensures)) (w .1 .taken) (f .like) (g .1) (g .2), stayed-moved (v .1) (l .q) (w .5 .ensures)))
-          (⊎-elim
-          (λ w. rw (w .7, w .8, w .9, w .10, w .11, w .12)
-          (passed-joined _ _ _ _ _ _ _ _ _ _ _ _ (z .0) (g .0) (v .0) (w .3 .result) (w .3 .ensures) (w .6 .left) (z .1), stayed-moved (v .1) (w .3 .result) (w .5 .ensures)))
-          (⊎-elim
-          (λ w. rw (w .5, w .6, w .7, w .8, w .9, w .10) (passed-stays _ _ _ _ _ _ _ _ _ _ _ _ (z .0) (g .0) (v .0) same (rw (w .4 .left) at (w .3 .ensures)), stayed-still (v .1) still))
-          (⊎-elim
-          (λ w. rw (w .2, w .3, w .4, w .5, w .6, w .7) (passed-stays _ _ _ _ _ _ _ _ _ _ _ _ (z .0) (g .0) (v .0) same (place-still next (a .part .now) (l .q) f (λ e. absurd (omega (arith, e, w .1 .left)))), stayed-still (v .1) still))
-          (λ w. rw (w .1, w .2, w .3, w .4, w .5, w .6) (
-            passed-stays _ _ _ _ _ _ _ _ _ _ _ _ (z .0) (g .0) (v .0) same
-                (place-still next (a .part .now) (l .q) f
-                (λ e. s .1 .agree h (l .q) (omega (arith, e, t)) t (f .like)
-                (calm-right next h (l .q) x y (a .moved .now) (w .0 .left) (s .0 h (omega (arith, e, t)))) (calm-left next h (l .q) x y (a .moved .now) (w .0 .left) (s .0 (l .q) t)))),
-            stayed-still (v .1) still,
-          )))))
-          (c .if1 .came),
-    )
+loop-again c = let d = c .before .before .before .before .before .before .before .before .before .pre .1 .1 .1 in
+    let e = c .seek2 .ensures in
+    (e .1, come-gap (few (c .before .before .before .before .before .before)) (d .1 .0 .0) (d .0) (d .1 .1 .0) (d .1 .1 .1 .0) e (come (c .before)))
 
 returns : tie.Need-returns Inv-loop μ-loop
-returns c = let e : c .before .loop .q ≡ c .before .before .before .before .before .args .n = omega arith in
-    let p = rw e at (c .before .loop .inv .1 .0) in
-    (p .named, (p .births, (rw e at (c .before .loop .inv .1 .1), p .some)))
+returns c = let e : c .before .loop .q ≡ c .before .before .before .before .before .before .args .n = omega (arith, c .loop-test .left, c .before .loop .inv .0) in
+    let v = rw e at (c .before .loop .inv .1) in
+    (v .passed .named, (v .passed .births, (v .stayed, (v .passed .some, (v .passed .link-long, v .passed .zero)))))
 
 pub round-spec : {M : Type 1} → statement M
 round-spec =
@@ -149,32 +174,33 @@ round-spec =
     (tie.spec
     Inv-loop
     μ-loop
+    seek-requires
     loop-holds
     mul-h
     element-copy-out-h
     cast-h
-    mul-if1
-    element-copy-out-if1
-    mul-if1-2
-    element-copy-out-if1-2
+    (λ c κs. search needs)
+    (λ c κs. search needs)
     place-requires
     cast-next
     mul-next
     element-write-next
-    (λ c κs. search needs)
+    mul-stirred
+    element-copy-out-stirred
     mul-link
-    array-read-link
+    element-copy-out-link
     mul-link-2
-    array-write-link
+    element-write-link
     cast-link
     mul-link-3
-    array-write-link-2
+    element-write-link-2
     cast-parent
     mul-parent
     element-write-parent
     mul-born
     element-write-born
-    (λ c. search needs)
-    (λ c. search needs)
+    add-seek
+    seek-requires-2
+    loop-less
     loop-again
     returns)

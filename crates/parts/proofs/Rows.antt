@@ -1,0 +1,118 @@
+-- Rows, one cell after the other, and beside them the signs of the states that lead to a state.
+--   row-in, rows-less: a cell of the first n rows; fewer rows
+--   Noting: the loop over the kinds of one state
+--   noting-none, noting-more, noting-rows, noting-end: its turns
+--   sources-more: the sources of one state more
+use Prim.Native.Nat.{ℕ, _+_, _*_, _%_, _^_, _≤_, _<_}
+use mathlib.Core.Path.{_≡_, refl, sym, _∙_}
+use mathlib.Core.Bool.{Bool, true}
+use mathlib.Core.Logic.{inl, inr}
+use mathlib.Core.List.{List}
+use native.Mathlib.Nat.{mul-le-mul-right}
+use native.Mathlib.Omega.{arith}
+use native.Mathlib.Decide.{ℕ-discrete}
+use borrow.Author.Count.{below-more}
+use lib.Bits.{bitOr}
+use lib.ListN.{length, getD, set, length-set}
+use lib.Seq.{getD-set-same, getD-set-other}
+use Rattle.scope.specs.Bits.{has}
+use Rattle.scope.proofs.Room.{flat-in}
+use Rattle.scope.proofs.Tests.{split}
+use Rattle.parts.specs.Side.{both, cellIn}
+use Rattle.parts.specs.Kinds.{ColumnsOf}
+use Rattle.parts.specs.Rows.{rowBytes, RowCell, Rows}
+use Rattle.parts.specs.Signs.{signs, Sources, Noted}
+use Rattle.parts.proofs.Rooms.{cell-next}
+use Rattle.parts.proofs.Signs.{or-left, or-right, sign-own}
+
+module _ {a b left right : List ℕ} {count : ℕ} {rows : List ℕ} {n : ℕ} (d : Rows a b left right count rows n) where
+  -- a cell of the first n rows
+  pub row-in : (q i : ℕ) → q < n → i < count → q * count + i < rowBytes
+  row-in q i h l = omega (arith, flat-in n count q i h l, d .fits)
+
+  -- the rows of fewer states
+  pub rows-less : (k : ℕ) → k ≤ n → Rows a b left right count rows k
+  rows-less k h = record { fits = omega (arith, mul-le-mul-right count h, d .fits); cell = λ q i g l. d .cell q i (omega arith) l }
+
+-- the cells of the states below q, and the first i of q, are in their rows if there are rows; from has what from₀ has, and the sign of q with the states of these i cells
+pub record Noting (a b left right : List ℕ) (count q : ℕ) (few : Bool) (from₀ rows from : List ℕ) (i : ℕ) : Type 0 where
+  pub within : i ≤ count
+  pub rows-long : length rows ≡ rowBytes
+  pub from-long : length from ≡ 256
+  pub before : few ≡ true → (p j : ℕ) → p < q → j < count → RowCell a b left right count rows p j
+  pub row : few ≡ true → (j : ℕ) → j < i → RowCell a b left right count rows q j
+  pub kept : (y k : ℕ) → has (getD from₀ y 0) k ≡ true → has (getD from y 0) k ≡ true
+  pub aimed : (j : ℕ) → j < i → has (getD from (cellIn a b q (getD left j 0) (getD right j 0)) 0) (q % signs) ≡ true
+
+module _ {a b left right : List ℕ} {count q : ℕ} {few : Bool} where
+  -- no kind yet
+  pub noting-none : {rows from : List ℕ} → length rows ≡ rowBytes → length from ≡ 256 → (few ≡ true → Rows a b left right count rows q) → Noting a b left right count q few from rows from 0
+  noting-none l m d = record {
+    within = omega arith;
+    rows-long = l;
+    from-long = m;
+    before = λ e. d e .cell;
+    row = λ e j h. absurd (omega arith);
+    kept = λ y k h. h;
+    aimed = λ j h. absurd (omega arith);
+  }
+
+  module _ {from₀ rows from : List ℕ} {i : ℕ} (d : Noting a b left right count q few from₀ rows from i) where
+    -- one kind more, which leads to y
+    pub noting-more : {rows′ : List ℕ} {y s : ℕ} → i < count → y < 256 → y ≡ cellIn a b q (getD left i 0) (getD right i 0) → s ≡ 2 ^ (q % signs) → length rows′ ≡ rowBytes
+        → (few ≡ true → (q * count + i < rowBytes) × (rows′ ≡ set rows (q * count + i) y)) → Noting a b left right count q few from₀ rows′ (set from y (bitOr (getD from y 0) s)) (i + 1)
+    noting-more {rows′} {y} {s} l m e g long u = record {
+      within = omega arith;
+      rows-long = long;
+      from-long = length-set from y (bitOr (getD from y 0) s) ∙ d .from-long;
+      before = λ f p j h k. let z = flat-in q count p j h k in other f p j (λ x. omega arith) (d .before f p j h k);
+      row = λ f. below-more (RowCell a b left right count rows′ q) i (λ j h. other f q j (λ x. omega arith) (d .row f j h)) (own f);
+      kept = λ x k h. still x k (d .kept x k h);
+      aimed = below-more (λ (j : ℕ). has (getD from′ (cellIn a b q (getD left j 0) (getD right j 0)) 0) (q % signs) ≡ true) i
+          (λ j h. still (cellIn a b q (getD left j 0) (getD right j 0)) (q % signs) (d .aimed j h))
+          (rw (← e, here) (or-right (getD from y 0) s (q % signs) (rw g (sign-own q))));
+    }
+      where
+        from′ : List ℕ
+        from′ = set from y (bitOr (getD from y 0) s)
+
+        other : few ≡ true → (p j : ℕ) → (p * count + j ≡ q * count + i → ⊥) → RowCell a b left right count rows p j → RowCell a b left right count rows′ p j
+        other f p j n r =
+            let z : getD rows′ (p * count + j) 0 ≡ getD rows (p * count + j) 0 = rw (u f .1) (getD-set-other rows (q * count + i) (p * count + j) y 0 n) in
+            record { is = z ∙ r .is; below = omega (arith, z, r .below) }
+
+        own : few ≡ true → RowCell a b left right count rows′ q i
+        own f =
+            let z : getD rows′ (q * count + i) 0 ≡ y = rw (u f .1) (getD-set-same rows (q * count + i) y 0 (omega (arith, d .rows-long, u f .0))) in
+            record { is = z ∙ e; below = omega (arith, z) }
+
+        here : getD from′ y 0 ≡ bitOr (getD from y 0) s
+        here = getD-set-same from y (bitOr (getD from y 0) s) 0 (omega (arith, d .from-long))
+
+        still : (x k : ℕ) → has (getD from x 0) k ≡ true → has (getD from′ x 0) k ≡ true
+        still x k h = elim (ℕ-discrete x y) [
+          | yes z ↦ (rw (z, here) (or-left (getD from y 0) s k (rw z at h)))
+          | no z ↦ (rw (getD-set-other from y x (bitOr (getD from y 0) s) 0 z) h)
+        ]
+
+  module _ {from₀ rows from : List ℕ} (d : Noting a b left right count q few from₀ rows from count) where
+    -- all kinds: the row of q is there
+    pub noting-rows : (few ≡ true → (q + 1) * count ≤ rowBytes) → few ≡ true → Rows a b left right count rows (q + 1)
+    noting-rows f e = record {
+      fits = f e;
+      cell = λ p j h l. below-more (λ (p : ℕ). RowCell a b left right count rows p j) q (λ p k. d .before e p j k l) (d .row e j l) p h;
+    }
+
+    -- and its sign, with each state to which a byte leads it
+    pub noting-end : ColumnsOf a b left right count → Noted ((both a b) .next) q from₀ from
+    noting-end c = record {
+      kept = d .kept;
+      here = λ x h.
+          let (i, l, y) = c .all x h in
+          rw (← cell-next a b q (getD left i 0) (getD right i 0) x y) (d .aimed i l);
+    }
+
+-- the sources of one state more
+pub sources-more : {next : ℕ → ℕ → ℕ} {q : ℕ} {from from′ : List ℕ} → Sources next q from → Noted next q from from′ → Sources next (q + 1) from′
+sources-more {next} {q} {from} {from′} s d p x h = below-more (λ (p : ℕ). (x : ℕ) → x < _ → has (getD from′ (next p x) 0) (p % signs) ≡ true) q
+    (λ p l x k. d .kept (next p x) (p % signs) (s p x l k)) (d .here) p h x
