@@ -1,15 +1,26 @@
 -- The seat of a set among the reached ones.
 --   seated-guess: where it was guessed; seated-none: where nothing is stored; seated-new: where a new set is
-use Prim.Native.Nat.{ℕ, _+_, _≤_, _<_}
-use mathlib.Core.Path.{_≡_}
+--   remainder-low, remainder-in: the remainder of a set is that of its first word, and that of a guess
+--   guess-none: where there is no guess for a set, it is new
+--   guesses-first, guesses-set, guesses-new: the guesses for {0}, with one that is written, and for a new set
+--   guessed-there, guessed-none, guessed-new: what they are after a set has its seat
+use Prim.Native.Nat.{ℕ, _+_, _%_, _^_, _≤_, _<_}
+use mathlib.Core.Path.{_≡_, refl, sym, ap, _∙_}
 use mathlib.Core.List.{List}
 use mathlib.Core.Logic.{inl, inr}
+use native.Mathlib.Nat.{mod-lt}
 use native.Mathlib.Omega.{arith}
+use native.Mathlib.Decide.{ℕ-discrete}
+use borrow.Author.Count.{below-more}
+use lib.Dec.{lit<}
+use lib.ListN.{getD, set, replicate, length-set}
+use lib.Seq.{getD-set-same, getD-set-other}
 use Rattle.scope.specs.Limits.{stateLimit}
 use Rattle.scope.proofs.Tests.{split}
-use Rattle.sets.specs.Value.{Put}
+use Rattle.sets.specs.Value.{valueAt, value, Put}
+use Rattle.sets.proofs.Words.{put-other}
 use Rattle.determinise.specs.Layout.{setsAt, setOf}
-use Rattle.determinise.specs.Reach.{Found, Seated}
+use Rattle.determinise.specs.Reach.{guessCount, noGuess, remainderOf, Guesses, Guessed, Found, Seated}
 use Rattle.determinise.proofs.Kept.{kept-none, kept-wide, put-kept}
 
 -- a set that was guessed
@@ -33,3 +44,71 @@ seated-new w w′ n s r f e h p = record {
   new = λ z i l. f .new i (omega arith);
   kept = kept-wide (put-kept p) _ _ (omega arith) (omega arith);
 }
+
+-- the remainder of a set is that of its first word
+pub remainder-low : (m : List ℕ) → remainderOf (getD m 0 0) ≡ remainderOf (value m)
+unfolding valueAt
+remainder-low m =
+    let e : getD m 0 0 % 2 ^ 64 ≡ value m % 2 ^ 64 = omega arith in
+    ap (λ (s : ℕ). s % guessCount) e
+
+-- a remainder is that of a guess
+pub remainder-in : (s : ℕ) → remainderOf s < guessCount
+remainder-in s = mod-lt (s % 2 ^ 64) (lit< tt)
+
+-- where there is no guess for a set, it is new
+pub guess-none : {w g : List ℕ} {n : ℕ} → Guesses w g n → (s : ℕ) → getD g (remainderOf s) 0 ≡ noGuess → (i : ℕ) → i < n → setOf w i ≡ s → ⊥
+guess-none {g = g} d s e i h z = d .known i h (ap (λ (s : ℕ). getD g (remainderOf s) 0) z ∙ e)
+
+-- {0} is there, and no other set
+pub guesses-first : (w : List ℕ) → setOf w 0 ≡ 1 → Guesses w (set (replicate guessCount noGuess) 1 0) 1
+guesses-first w e = record {
+  long = refl;
+  known = λ i h z.
+      let o : i ≡ 0 = omega arith in
+      let u : setOf w i ≡ 1 = rw o e in
+      one (sym (ap (λ (s : ℕ). getD first (remainderOf s) 0) u) ∙ z);
+}
+  where
+    first : List ℕ
+    first = set (replicate guessCount noGuess) 1 0
+
+    one : getD first 1 0 ≡ noGuess → ⊥
+    one z = omega (arith, z)
+
+module _ {w g : List ℕ} {n : ℕ} (d : Guesses w g n) (s r : ℕ) (l : r ≤ stateLimit) where
+  at : getD (set g (remainderOf s) r) (remainderOf s) 0 ≡ r
+  at = getD-set-same g (remainderOf s) r 0 (omega (arith, remainder-in s, d .long))
+
+  -- a guess is written
+  guesses-set : Guesses w (set g (remainderOf s) r) n
+  guesses-set = record {
+    long = length-set g (remainderOf s) r ∙ d .long;
+    known = λ i h z. elim (ℕ-discrete (remainderOf (setOf w i)) (remainderOf s)) [
+      | yes e ↦ omega (arith, sym at ∙ ap (λ (k : ℕ). getD (set g (remainderOf s) r) k 0) (sym e) ∙ z)
+      | no e ↦ d .known i h (sym (getD-set-other g (remainderOf s) (remainderOf (setOf w i)) r 0 e) ∙ z)
+    ];
+  }
+
+  -- and so for a set that is stored
+  guesses-new : {w′ : List ℕ} → Put w w′ (setsAt + n) s → Guesses w′ (set g (remainderOf s) r) (n + 1)
+  guesses-new {w′} p = record {
+    long = guesses-set .long;
+    known = below-more (λ (i : ℕ). getD (set g (remainderOf s) r) (remainderOf (setOf w′ i)) 0 ≡ noGuess → ⊥) n
+        (λ i h z. guesses-set .known i h (ap (λ (s′ : ℕ). getD (set g (remainderOf s) r) (remainderOf s′) 0) (sym (put-other p (setsAt + i) (λ e. omega arith))) ∙ z))
+        (λ z. omega (arith, sym at ∙ ap (λ (s′ : ℕ). getD (set g (remainderOf s) r) (remainderOf s′) 0) (sym (p .here)) ∙ z));
+  }
+
+-- the set was guessed
+pub guessed-there : {w g : List ℕ} {n r : ℕ} → Guesses w g n → r < n → Guessed w g n r
+guessed-there d h = record { old = d; new = λ e. absurd (omega arith) }
+
+-- or is found, or has no room
+pub guessed-none : {w g : List ℕ} {n : ℕ} → Guesses w g n → n ≤ stateLimit → (s r : ℕ) → r ≤ n → (r ≡ n → stateLimit ≤ n) → Guessed w (set g (remainderOf s) r) n r
+guessed-none d f s r l full = record { old = guesses-set d s r (omega arith); new = λ e h. absurd (omega (arith, full e)) }
+
+-- or is new
+pub guessed-new : {w w′ g : List ℕ} {n : ℕ} → Guesses w g n → n ≤ stateLimit → (s r : ℕ) → r ≤ n → Put w w′ (setsAt + n) s → Guessed w′ (set g (remainderOf s) r) n r
+guessed-new d f s r l p =
+    let e = guesses-new d s r (omega arith) p in
+    record { old = record { long = e .long; known = λ i h. e .known i (omega arith) }; new = λ z h. e }

@@ -6,14 +6,16 @@
 --   MasksOf e k mask: each of the k masks is that of some byte
 --   cellAt o i: the cell number i of an image, by rows
 --   Rows e k mask set cell n filled: n different reached sets, {0} first, and the cells below `filled` lead where they should
---   guessCount: how many numbers of sets are kept to be tried first
+--   guessCount, noGuess: how many numbers of sets are kept to be tried first, and what stands where there is none
+--   remainderOf s: which of them is the set's
+--   Guesses w g n: there is one for each of n sets; Guessed w g n r: also for the set number r, if it is new; GuessesFor w g r: for the sets of an answer, if they are not too many
 --   Found w n s r: r is the number of the set s among n, n if it has none
 --   Seated w w′ n s r: the same, and a set that is new is stored where there is room
 --   Fits o w m k q n: the buffers are long enough for the row q of k classes where n sets are reached
 --   Row e o w m k q n u: the sets and cells before the row q, and the union for it
 --   SetsOf e w m k: the words hold the follow sets of e, and m the masks of its classes
 --   RowAnswer, RowsAnswer: what one row, and all rows, answer
-use Prim.Native.Nat.{ℕ, _+_, _*_, _<_, _≤_}
+use Prim.Native.Nat.{ℕ, _+_, _*_, _%_, _^_, _<_, _≤_}
 use mathlib.Core.Path.{_≡_}
 use mathlib.Core.List.{List}
 use lib.Bits.{bitAnd}
@@ -56,6 +58,24 @@ pub record Rows (e : Re) (k : ℕ) (mask set cell : ℕ → ℕ) (n filled : ℕ
 
 abbrev pub guessCount : ℕ
 guessCount = 251
+
+abbrev pub noGuess : ℕ
+noGuess = 255
+
+abbrev pub remainderOf : ℕ → ℕ
+remainderOf s = s % 2 ^ 64 % guessCount
+
+pub record Guesses (w g : List ℕ) (n : ℕ) : Type 0 where
+  pub long : length g ≡ guessCount
+  pub known : (i : ℕ) → i < n → getD g (remainderOf (setOf w i)) 0 ≡ noGuess → ⊥
+
+pub record Guessed (w g : List ℕ) (n r : ℕ) : Type 0 where
+  pub old : Guesses w g n
+  pub new : r ≡ n → r < stateLimit → Guesses w g (n + 1)
+
+abbrev pub GuessesFor : List ℕ → List ℕ → Counted → Type 0
+GuessesFor w g (Few n) = Guesses w g n
+GuessesFor w g Many = length g ≡ guessCount
 
 pub record Found (w : List ℕ) (n s r : ℕ) : Type 0 where
   pub most : r ≤ n

@@ -2,13 +2,13 @@
 // common with the class's mask; a set that is not yet among the reached ones is stored after them.
 ghost use mathlib.Core.Path.{_≡_};
 ghost use mathlib.Core.Bool.{true};
-ghost use Prim.Native.Nat.{_+_, _*_, _<_, _≤_};
+ghost use Prim.Native.Nat.{ℕ, _+_, _*_, _<_, _≤_};
 ghost use lib.ListN.{length};
 ghost use Rattle.scope.specs.Limits.{stateLimit, setWords};
 ghost use Rattle.scope.specs.Bits.{joined};
 ghost use Rattle.sets.specs.Value.{setBits, value};
 ghost use Rattle.determinise.specs.Layout.{setsAt, setOf};
-ghost use Rattle.determinise.specs.Reach.{followOf, WordAnswer, guessCount, Found, Seated, Fits, RowAnswer, RowsAnswer};
+ghost use Rattle.determinise.specs.Reach.{followOf, WordAnswer, noGuess, remainderOf, Guesses, Guessed, GuessesFor, Found, Seated, Fits, RowAnswer, RowsAnswer};
 use crate::Counted;
 use crate::SETS_AT;
 use scope::Machine;
@@ -60,14 +60,23 @@ fn find(words: &[u64], n: usize, s: Set) -> usize
     n
 }
 
-// How many guesses are kept: for each remainder of a set, the number that a set with it had last.
+// How many guesses are kept: for each remainder of a set, the number that a set with it had last, or that none had it.
 const GUESSES: usize = 251;
+
+const NO_GUESS: u8 = 255;
+
+// The remainder of a word.
+fn word_remainder(x: u64) -> usize
+    ensures { λ r. ⌜ r ≡ remainderOf x ⌝ }
+{
+    (x % GUESSES as u64) as usize
+}
 
 // The remainder of a set, by its first word.
 fn remainder(s: Set) -> usize
-    ensures { λ r. ⌜ r < guessCount ⌝ }
+    ensures { λ r. ⌜ r ≡ remainderOf (value (s .words)) ⌝ }
 {
-    (s.words[0] % GUESSES as u64) as usize
+    word_remainder(s.words[0])
 }
 
 // Whether the number i among the n reached sets is that of s.
@@ -81,19 +90,32 @@ fn is_at(words: &[u64], n: usize, i: usize, s: Set) -> bool
     false
 }
 
+// The first of the n reached sets that is s, n if none is. Where there is no guess for its remainder, none has it.
+fn search(words: &[u64], n: usize, guess: u8, s: Set) -> usize
+    requires { ⌜ (n ≤ stateLimit) × ((setsAt + stateLimit) * setWords ≤ length (now words)) ⌝ }
+    requires { ⌜ (guess ≡ noGuess → (i : ℕ) → i < n → setOf (now words) i ≡ value (s .words) → ⊥) ⌝ }
+    ensures { λ r. ⌜ Found (now (words .entry)) n (value (s .words)) r ⌝ }
+{
+    if guess == NO_GUESS {
+        n
+    } else {
+        find(words, n, s)
+    }
+}
+
 // The number of s among the n reached sets: the one that is guessed, if it is that, or else the first that is found. Where it is new and there is room, it is stored
 // after them.
 fn seat(words: &mut [u64], guesses: &mut [u8], n: usize, s: Set) -> usize
-    requires { ⌜ (n ≤ stateLimit) × ((setsAt + stateLimit) * setWords ≤ length (now words)) × (length (now guesses) ≡ guessCount) ⌝ }
+    requires { ⌜ (n ≤ stateLimit) × ((setsAt + stateLimit) * setWords ≤ length (now words)) × Guesses (now words) (now guesses) n ⌝ }
     ensures { λ r. ⌜ Seated (now (words .entry)) (now (words .exit)) n (value (s .words)) r ⌝ }
-    ensures { λ r. ⌜ length (now (guesses .exit)) ≡ guessCount ⌝ }
+    ensures { λ r. ⌜ Guessed (now (words .exit)) (now (guesses .exit)) n r ⌝ }
 {
     let at = remainder(s);
-    let guess = guesses[at] as usize;
-    if is_at(words, n, guess, s) {
-        return guess;
+    let guess = guesses[at];
+    if is_at(words, n, guess as usize, s) {
+        return guess as usize;
     }
-    let i = find(words, n, s);
+    let i = search(words, n, guess, s);
     guesses[at] = i as u8;
     if i == n {
         if n < Machine::STATES {
@@ -114,8 +136,8 @@ fn row(
     n: usize,
     union: Set,
 ) -> Counted
-    requires { ⌜ Fits (now image) (now words) (now masks) k q n × (length (now guesses) ≡ guessCount) ⌝ }
-    ensures { λ r. ⌜ length (now (guesses .exit)) ≡ guessCount ⌝ }
+    requires { ⌜ Fits (now image) (now words) (now masks) k q n × Guesses (now words) (now guesses) n ⌝ }
+    ensures { λ r. ⌜ GuessesFor (now (words .exit)) (now (guesses .exit)) r ⌝ }
     ensures { λ r. ⌜ RowAnswer (now (image .entry)) (now (words .entry)) (now (masks .entry)) k q n (value (union .words)) (now (image .exit)) (now (words .exit)) r ⌝ }
 {
     let at = Machine::CELLS_AT + q * k;
@@ -141,7 +163,8 @@ pub fn rows(image: &mut [u8], words: &mut [u64], masks: &[u64], k: usize) -> Cou
     requires { ⌜ setOf (now words) 0 ≡ 1 ⌝ }
     ensures { λ r. ⌜ RowsAnswer (now (image .entry)) (now (words .entry)) (now (masks .entry)) k (now (image .exit)) (now (words .exit)) r ⌝ }
 {
-    let mut guesses = [0u8; GUESSES];
+    let mut guesses = [NO_GUESS; GUESSES];
+    guesses[1] = 0;
     let mut n: usize = 1;
     let mut q: usize = 0;
     while q < n {

@@ -1,22 +1,24 @@
 -- The invariant: the rows below q are filled, and lead to sets among the n reached ones (`Filled`). The measure is how many rows there is room for.
 use Prim.Native.Nat.{_-_}
-use mathlib.Core.Path.{_≡_, refl}
 use borrow.Author.Needs.{needs}
-use lib.ListN.{length}
 use Rattle.scope.specs.Limits.{stateLimit}
-use Rattle.determinise.specs.Reach.{guessCount}
+use Rattle.determinise.specs.Reach.{Guesses}
 use Rattle.determinise.proofs.Filled.{Filled, filled-none, filled-next, filled-many, filled-end}
+use Rattle.determinise.proofs.Seats.{guesses-first}
 use Rattle.determinise.proofs.reach.rows.Statement.{statement}
 use Rattle.determinise.proofs.reach.rows.Tie as tie
 
 abbrev Inv-loop : tie.InvT-loop
-Inv-loop image₀ words₀ masks k guesses₀ n₀ q₀ image words guesses n q = Filled image₀ words₀ masks k image words n q × (length guesses ≡ guessCount)
+Inv-loop image₀ words₀ masks k guesses₀ n₀ q₀ image words guesses n q = Filled image₀ words₀ masks k image words n q × Guesses words guesses n
 
 abbrev μ-loop : tie.MeasureT-loop
 μ-loop image₀ words₀ masks k guesses₀ n₀ q₀ image words guesses n q = stateLimit - q
 
 loop-holds : tie.Need-loop-holds Inv-loop μ-loop
-loop-holds c = (search (needs, filled-none), refl)
+loop-holds c = (search (needs, filled-none), guesses-first _ (c .before .before .before .pre .1))
+
+row-requires : tie.Need-row-requires Inv-loop μ-loop
+row-requires c κs = (search needs, c .before .before .before .before .before .before .before .loop .inv .1)
 
 returns : tie.Need-returns Inv-loop μ-loop
 returns c =
@@ -25,7 +27,7 @@ returns c =
 loop-again : tie.Need-loop-again Inv-loop μ-loop
 loop-again c = (
   filled-next (c .before .before .before .before .before .before .before .before .before .before .before .before .before .before .before .before .before .before .before .before .pre .0) (c .before .before .before .before .before .before .before .before .before .before .before .before .before .before .before .before .loop .inv .0) (c .before .before .before .before .before .before .before .before .before .before .before .before .before .before .before .loop-test .taken) (c .before .before .before .before .before .before .before .before .before .before .before .before .before .load .ensures) (c .before .before .before .before .before .before .before .before .before .before .before .before .follows .ensures) (c .before .before .before .before .before .before .before .before .row .ensures .1) _ (c .before .counted .given .1),
-  c .before .before .before .before .before .before .before .before .row .ensures .0,
+  rw (c .before .counted .given .1) at (c .before .before .before .before .before .before .before .before .row .ensures .0),
 )
 
 returns-2 : tie.Need-returns-2 Inv-loop μ-loop
@@ -37,12 +39,13 @@ rows-spec =
     (tie.spec
     Inv-loop
     μ-loop
+    (λ c. search needs)
     loop-holds
     (λ c. search needs)
     (λ c κs. search needs)
     (λ c κs. search needs)
     (λ c. search needs)
-    (λ c κs. search needs)
+    row-requires
     (λ c. search needs)
     (λ c. search needs)
     (λ c. search needs)
