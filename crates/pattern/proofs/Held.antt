@@ -1,28 +1,31 @@
--- Byte sets marked bit by bit and item by item. What is held now, with what is left to mark, is always what was held at first, with all that is to be marked.
+-- Byte sets marked byte by byte and item by item. What is held now, with what is left to mark, is always what was held at first, with all that is to be marked.
 --   Left k s r m m′: of the bytes s, which are to come into the set number k, the bytes r are left
 --   left-all, left-more, left-none: nothing is marked yet; some more is; nothing is left
---   mark-bit, mark-eight: one bit was stored, or all of one byte
---   between-more, between-eight, between-none, between-one: the bytes from b on; none; one
+--   between-is, between-split, between-none, between-one: a range: what it decides; two parts of it; none; one byte
+--   has-range: the number whose bits are those of a range
+--   mark-range: the bits of a range that lie in one byte were stored
 --   marked-as: the same bytes under another name
 --   kept-more: a buffer whose tail stays
-use Prim.Native.Nat.{ℕ, _+_, _*_, _/_, _%_, _^_, _<_, _≤_}
+use Prim.Native.Nat.{ℕ, zero, suc, _+_, _-_, _*_, _/_, _%_, _^_, _<_, _≤_}
 use mathlib.Core.Path.{_≡_, refl, sym, ap, ap₂, _∙_}
-use mathlib.Core.Bool.{Bool, false, _&&_, _||_, and-false, or-false, or-true, or-assoc, and-or-distrib-left}
+use mathlib.Core.Bool.{Bool, false, _&&_, _||_, and-false, or-false, or-assoc, and-or-distrib-left}
 use mathlib.Core.List.{List}
-use mathlib.Core.Logic.{_⊎_, inl, inr}
+use mathlib.Core.Logic.{inl, inr}
 use native.Mathlib.Decide.{ℕ-discrete}
+use native.Mathlib.Nat.{pow-suc}
 use native.Mathlib.Omega.{arith}
-use borrow.Author.Tests.{eq-eqb, ne-eqb, le-leb, lt-leb}
+use borrow.Author.Tests.{ne-eqb}
 use lib.Bits.{bitOr}
-use lib.Dec.{eqb, leb}
+use lib.Dec.{eqb}
 use lib.ListN.{length, getD, set, length-set}
+use lib.Pow.{pow-pos}
 use lib.Seq.{getD-set-same, getD-set-other}
 use Rattle.scope.specs.Bits.{has}
 use Rattle.scope.specs.Buffers.{TailKept}
 use Rattle.scope.specs.Bytes.{ByteSet, between}
 use Rattle.scope.specs.Limits.{byteValues, positionLimit}
-use Rattle.scope.proofs.Bits.{has-or, has-pow, has-ones}
-use Rattle.scope.proofs.Tests.{split}
+use Rattle.scope.proofs.Bits.{has-or, has-half, has-ones, has-small}
+use Rattle.scope.proofs.Tests.{split, same-test, Tests, never, or, and, itself, equals, at-most}
 use Rattle.scope.proofs.Buffers.{all-kept}
 use Rattle.pattern.specs.Held.{byteSet, byteSets, held, Marked}
 
@@ -58,110 +61,91 @@ left-none {k} {b = b} l e = record {
   bits = λ q n h. sym (rw and-false (or-false (held b q n))) ∙ ap (λ (y : Bool). held b q n || (eqb q k && y)) (sym (e n h)) ∙ l .bits q n h;
 }
 
--- ---- one bit
+-- ---- a range
+
+-- two tests of the same are equal
+same : {a b : Bool} {A B : Type 0} → Tests a A → Tests b B → (A → B) → (B → A) → a ≡ b
+same {a} {b} x y f g = same-test a b (λ e. y .full (f (x .sound e))) (λ e. x .full (g (y .sound e)))
+
+-- the bytes b to c
+pub between-is : (b c n : ℕ) → Tests (between b c n) ((b ≤ n) × (n ≤ c))
+unfolding between
+between-is b c n = and (at-most b n) (at-most n c)
+
+-- the bytes before z, and the others
+pub between-split : (b z c n : ℕ) → b < z → z ≤ c + 1 → between b c n ≡ (between b (z - 1) n || between z c n)
+between-split b z c n h k =
+    same
+    (between-is b c n)
+    (or (between-is b (z - 1) n) (between-is z c n))
+    (λ x. elim (split n z) [ inl l ↦ inl (x .0, omega arith) | inr l ↦ inr (l, x .1) ])
+    (λ x. elim x [ inl y ↦ (y .0, omega (arith, y .1)) | inr y ↦ (omega (arith, y .0), y .1) ])
+
+-- a range that falls is empty
+pub between-none : (b c n : ℕ) → c < b → between b c n ≡ false
+between-none b c n h = same (between-is b c n) (never (λ x. x)) (λ x. omega (arith, x .0, x .1)) (λ x. absurd x)
+
+-- a range of one byte
+pub between-one : (b n : ℕ) → between b b n ≡ eqb n b
+between-one b n = same (between-is b b n) (equals n b) (λ x. omega (arith, x .0, x .1)) (λ e. (omega (arith, e), omega (arith, e)))
+
+-- ---- the bits of a range
+
+-- the number that has the bits 0 to t
+has-lowest : (t n : ℕ) → has (2 ^ suc t - 1) n ≡ between 0 t n
+has-lowest t n =
+    same
+    (itself _)
+    (between-is 0 t n)
+    (λ e. (omega arith, omega (arith, has-small (2 ^ suc t - 1) n (suc t) e (omega (arith, pow-pos (suc t))))))
+    (λ x. has-ones (suc t) n (omega (arith, x .1)))
+
+-- the number that has the bits s to t
+pub has-range : (s t n : ℕ) → s ≤ t → has (2 ^ suc t - 2 ^ s) n ≡ between s t n
+has-range zero t n h = has-lowest t n
+has-range (suc s) zero n h = absurd (omega arith)
+has-range (suc s) (suc t) zero h =
+    ne-eqb ((2 ^ suc (suc t) - 2 ^ suc s) / 1 % 2) 1 (λ e. omega (arith, e, pow-suc 2 (suc t), pow-suc 2 s))
+    ∙ same (never (λ x. x)) (between-is (suc s) (suc t) 0) (λ x. absurd x) (λ x. omega (arith, x .0))
+has-range (suc s) (suc t) (suc n) h =
+    let half : (2 ^ suc (suc t) - 2 ^ suc s) / 2 ≡ 2 ^ suc t - 2 ^ s = omega (arith, pow-suc 2 (suc t), pow-suc 2 s) in
+    has-half (2 ^ suc (suc t) - 2 ^ suc s) n
+    ∙ ap (λ (m : ℕ). has m n) half
+    ∙ has-range s t n (omega arith)
+    ∙ same (between-is s t n) (between-is (suc s) (suc t) (suc n)) (λ x. (omega (arith, x .0), omega (arith, x .1))) (λ x. (omega (arith, x .0), omega (arith, x .1)))
+
+-- ---- bits stored
 
 -- the same place: the same set and the same byte
-meets : (q k b n : ℕ) → n < 256 → b < 256 → q * 32 + n / 8 ≡ k * 32 + b / 8 → eqb (b % 8) (n % 8) ≡ (eqb q k && eqb n b)
-meets q k b n h l e =
-    let z : q ≡ k = omega arith in
-    elim (ℕ-discrete n b) [
-      | yes y ↦ let r : b % 8 ≡ n % 8 = omega arith in rw (eq-eqb _ _ r, eq-eqb _ _ z, eq-eqb _ _ y) refl
-      | no y ↦ rw (eq-eqb _ _ z, ne-eqb _ _ y) (ne-eqb (b % 8) (n % 8) (λ r. y (omega arith)))
-    ]
+meets : (q k b c n : ℕ) → b < 256 → n < 256 → c / 8 ≡ b / 8 → q * 32 + n / 8 ≡ k * 32 + b / 8 → between (b % 8) (c % 8) (n % 8) ≡ (eqb q k && between b c n)
+meets q k b c n h l g e =
+    same
+    (between-is (b % 8) (c % 8) (n % 8))
+    (and (equals q k) (between-is b c n))
+    (λ x. (omega arith, (omega (arith, x .0), omega (arith, x .1))))
+    (λ x. (omega (arith, x .1 .0), omega (arith, x .1 .1)))
 
 -- another place: another set or another byte
-misses : (q k b n : ℕ) → (q * 32 + n / 8 ≡ k * 32 + b / 8 → ⊥) → (eqb q k && eqb n b) ≡ false
-misses q k b n ne =
-    elim (ℕ-discrete q k) [
-      | yes z ↦ rw (eq-eqb _ _ z) (ne-eqb n b (λ y. ne (omega arith)))
-      | no z ↦ rw (ne-eqb _ _ z) refl
-    ]
+misses : (q k b c n : ℕ) → c / 8 ≡ b / 8 → (q * 32 + n / 8 ≡ k * 32 + b / 8 → ⊥) → (eqb q k && between b c n) ≡ false
+misses q k b c n g ne = same (and (equals q k) (between-is b c n)) (never (λ x. x)) (λ x. ne (omega (arith, x .0, x .1 .0, x .1 .1))) (λ x. absurd x)
 
--- the bit of the byte b was stored
-pub mark-bit : (k b v : ℕ) (m : List ℕ) → k < positionLimit → byteSets ≤ length m → b < 256 → v ≡ 2 ^ (b % 8)
-    → Marked k (λ n. eqb n b) m (set m (k * byteSet + b / 8) (bitOr (getD m (k * byteSet + b / 8) 0) v))
+-- the bits of the bytes b to c, which lie in one byte, were stored
+pub mark-range : (k b c v : ℕ) (m : List ℕ) → k < positionLimit → byteSets ≤ length m → b < 256 → c / 8 ≡ b / 8 → ((n : ℕ) → has v n ≡ between (b % 8) (c % 8) n)
+    → Marked k (between b c) m (set m (k * byteSet + b / 8) (bitOr (getD m (k * byteSet + b / 8) 0) v))
 unfolding held
-mark-bit k b v m h l hb ev = rw ev (record {
-  kept = record { size = simp length-set; outside = λ i z. getD-set-other m (k * 32 + b / 8) i _ 0 (λ e. omega arith) };
-  bits = λ q n hn. at q n hn (ℕ-discrete (q * 32 + n / 8) (k * 32 + b / 8));
-})
-  where
-    at : (q n : ℕ) → n < 256 → Dec (q * 32 + n / 8 ≡ k * 32 + b / 8)
-        → has (getD (set m (k * 32 + b / 8) (bitOr (getD m (k * 32 + b / 8) 0) (2 ^ (b % 8)))) (q * 32 + n / 8) 0) (n % 8) ≡ (has (getD m (q * 32 + n / 8) 0) (n % 8) || (eqb q k && eqb n b))
-    at q n hn (yes e) =
-        rw e (ap (λ (x : ℕ). has x (n % 8)) (getD-set-same m (k * 32 + b / 8) _ 0 (omega arith)) ∙ has-or (getD m (k * 32 + b / 8) 0) (2 ^ (b % 8)) (n % 8))
-        ∙ ap₂ (λ (x : ℕ) (y : Bool). has (getD m x 0) (n % 8) || y) (sym e) (has-pow (b % 8) (n % 8) ∙ meets q k b n hn hb e)
-    at q n hn (no ne) = ap (λ (x : ℕ). has x (n % 8)) (getD-set-other m (k * 32 + b / 8) (q * 32 + n / 8) _ 0 ne) ∙ sym (or-false _) ∙ ap (λ (y : Bool). has (getD m (q * 32 + n / 8) 0) (n % 8) || y) (sym (misses q k b n ne))
-
--- ---- eight bits
-
--- all bits of the byte that has the bit b were stored
-pub mark-eight : (k b : ℕ) (m : List ℕ) → k < positionLimit → byteSets ≤ length m → b < 256 → Marked k (λ n. eqb (n / 8) (b / 8)) m (set m (k * byteSet + b / 8) 255)
-unfolding held
-mark-eight k b m h l hb = record {
+mark-range k b c v m h l hb g ev = record {
   kept = record { size = simp length-set; outside = λ i z. getD-set-other m (k * 32 + b / 8) i _ 0 (λ e. omega arith) };
   bits = λ q n hn. at q n hn (ℕ-discrete (q * 32 + n / 8) (k * 32 + b / 8));
 }
   where
     at : (q n : ℕ) → n < 256 → Dec (q * 32 + n / 8 ≡ k * 32 + b / 8)
-        → has (getD (set m (k * 32 + b / 8) 255) (q * 32 + n / 8) 0) (n % 8) ≡ (has (getD m (q * 32 + n / 8) 0) (n % 8) || (eqb q k && eqb (n / 8) (b / 8)))
+        → has (getD (set m (k * 32 + b / 8) (bitOr (getD m (k * 32 + b / 8) 0) v)) (q * 32 + n / 8) 0) (n % 8) ≡ (has (getD m (q * 32 + n / 8) 0) (n % 8) || (eqb q k && between b c n))
     at q n hn (yes e) =
-        let y : q ≡ k = omega arith in
-        let z : n / 8 ≡ b / 8 = omega arith in
-        ap (λ (i : ℕ). has (getD (set m (k * 32 + b / 8) 255) i 0) (n % 8)) e
-        ∙ ap (λ (x : ℕ). has x (n % 8)) (getD-set-same m (k * 32 + b / 8) 255 0 (omega arith))
-        ∙ has-ones 8 (n % 8) (omega arith)
-        ∙ sym (rw (eq-eqb q k y, eq-eqb (n / 8) (b / 8) z) (or-true (has (getD m (q * 32 + n / 8) 0) (n % 8))))
-    at q n hn (no ne) =
-        ap (λ (x : ℕ). has x (n % 8)) (getD-set-other m (k * 32 + b / 8) (q * 32 + n / 8) 255 0 ne)
-        ∙ sym (or-false _)
-        ∙ ap (λ (y : Bool). has (getD m (q * 32 + n / 8) 0) (n % 8) || y) (sym (apart (ℕ-discrete q k)))
-      where
-        apart : Dec (q ≡ k) → (eqb q k && eqb (n / 8) (b / 8)) ≡ false
-        apart (yes z) = rw (eq-eqb q k z) (ne-eqb (n / 8) (b / 8) (λ y. ne (omega arith)))
-        apart (no z) = rw (ne-eqb q k z) refl
+        rw e (ap (λ (x : ℕ). has x (n % 8)) (getD-set-same m (k * 32 + b / 8) _ 0 (omega arith)) ∙ has-or (getD m (k * 32 + b / 8) 0) v (n % 8))
+        ∙ ap₂ (λ (x : ℕ) (y : Bool). has (getD m x 0) (n % 8) || y) (sym e) (ev (n % 8) ∙ meets q k b c n hb hn g e)
+    at q n hn (no ne) = ap (λ (x : ℕ). has x (n % 8)) (getD-set-other m (k * 32 + b / 8) (q * 32 + n / 8) _ 0 ne) ∙ sym (or-false _) ∙ ap (λ (y : Bool). has (getD m (q * 32 + n / 8) 0) (n % 8) || y) (sym (misses q k b c n g ne))
 
--- ---- a range
-
--- eight bytes, and the others
-pub between-eight : (b high n : ℕ) → b % 8 ≡ 0 → b + 8 ≤ high + 1 → between b high n ≡ (eqb (n / 8) (b / 8) || between (b + 8) high n)
-unfolding between
-between-eight b high n a h =
-    elim (ℕ-discrete (n / 8) (b / 8)) [
-      | yes e ↦ rw (eq-eqb (n / 8) (b / 8) e, le-leb b n (omega arith), le-leb n high (omega arith)) refl
-      | no e ↦ rw (ne-eqb (n / 8) (b / 8) e) (from e (split b n))
-    ]
-  where
-    from : (n / 8 ≡ b / 8 → ⊥) → (b < n) ⊎ (n ≤ b) → (leb b n && leb n high) ≡ (leb (b + 8) n && leb n high)
-    from e (inl k) = rw (le-leb b n (omega arith), le-leb (b + 8) n (omega arith)) refl
-    from e (inr k) = rw (lt-leb b n (omega arith), lt-leb (b + 8) n (omega arith)) refl
-
--- the first byte, and the others
-pub between-more : (b high n : ℕ) → b ≤ high → between b high n ≡ (eqb n b || between (b + 1) high n)
-unfolding between
-between-more b high n h =
-    elim (ℕ-discrete n b) [
-      | yes e ↦ rw (eq-eqb n b e, le-leb b n (omega arith), le-leb n high (omega arith)) refl
-      | no e ↦ rw (ne-eqb n b e) (from e (split b n))
-    ]
-  where
-    from : (n ≡ b → ⊥) → (b < n) ⊎ (n ≤ b) → (leb b n && leb n high) ≡ (leb (b + 1) n && leb n high)
-    from e (inl k) = rw (le-leb b n (omega arith), le-leb (b + 1) n (omega arith)) refl
-    from e (inr k) = rw (lt-leb b n (omega arith), lt-leb (b + 1) n (omega arith)) refl
-
--- a range that falls is empty
-pub between-none : (b high n : ℕ) → high < b → between b high n ≡ false
-unfolding between
-between-none b high n h =
-    elim (split n b) [
-      | inl k ↦ rw (lt-leb b n k) refl
-      | inr k ↦ rw (le-leb b n k) (lt-leb n high (omega arith))
-    ]
-
--- a range of one byte
-pub between-one : (b n : ℕ) → between b b n ≡ eqb n b
-unfolding between
-between-one b n = between-more b b n (omega arith) ∙ rw (between-none (b + 1) b n (omega arith)) (or-false (eqb n b))
+-- ---- another name
 
 pub marked-as : {k : ℕ} {s s′ : ByteSet} {m m′ : List ℕ} → Marked k s m m′ → ((n : ℕ) → n < byteValues → s n ≡ s′ n) → Marked k s′ m m′
 marked-as {k} {m = m} x e = record { kept = x .kept; bits = λ q n h. x .bits q n h ∙ ap (λ (y : Bool). held m q n || (eqb q k && y)) (e n h) }

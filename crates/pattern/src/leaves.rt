@@ -1,11 +1,12 @@
 // What stands at one position: a literal, a byte's escape, the dot or a class. Its bytes are marked in a lent buffer.
 ghost use mathlib.Core.Path.{_≡_};
 ghost use mathlib.Core.List.{List};
-ghost use Prim.Native.Nat.{ℕ, _^_, _<_, _≤_};
+ghost use Prim.Native.Nat.{ℕ, _-_, _/_, _<_, _≤_};
 ghost use lib.ListN.{length};
+ghost use Rattle.scope.specs.Bits.{has};
 ghost use Rattle.scope.specs.Bytes.{byte, between};
 ghost use Rattle.scope.specs.Grammar.{atoms, Single};
-ghost use Rattle.scope.specs.Limits.{positionLimit};
+ghost use Rattle.scope.specs.Limits.{byteValues, positionLimit};
 ghost use Rattle.scope.specs.Tree.{itemSet, itemsSet, setOf};
 ghost use Rattle.pattern.specs.Held.{byteSets, Marked};
 ghost use Rattle.pattern.specs.Answer.{Ready, Answer};
@@ -28,15 +29,24 @@ use crate::text::escaped;
 // How many bytes a set of bytes has.
 const BYTE_SET: usize = 32;
 
-// The byte whose only bit is p.
-fn bit(p: usize) -> u8
-    requires { ⌜ p < 8 ⌝ }
-    ensures { λ r. ⌜ r ≡ 2 ^ p ⌝ }
+// The byte that has the bits from first to last.
+fn bits(first: usize, last: usize) -> u8
+    requires { ⌜ (first ≤ last) × (last < 8) ⌝ }
+    ensures { λ r. ⌜ ((n : ℕ) → has r n ≡ between first last n) ⌝ }
 {
-    1u8 << p
+    ((2usize << last) - (1usize << first)) as u8
 }
 
-// Marks the bytes low to high as those of the position that has k others before it, eight at once where they are all the bits of one byte.
+// The first byte after b that has its bit in another byte of a set than b, or end, if that comes first.
+fn same_until(b: usize, end: usize) -> usize
+    requires { ⌜ (b < end) × (end ≤ byteValues) ⌝ }
+    ensures { λ r. ⌜ (b < r) × (r ≤ end) × ((r - 1) / 8 ≡ b / 8) ⌝ }
+{
+    let next = b - b % 8 + 8;
+    if next < end { next } else { end }
+}
+
+// Marks the bytes low to high as those of the position that has k others before it, in one step those that have their bits in one byte.
 fn mark(bytes: &mut [u8], k: usize, low: u8, high: u8)
     requires { ⌜ (k < positionLimit) × (byteSets ≤ length (now bytes)) ⌝ }
     ensures { λ _. ⌜ Marked k (between low high) (now (bytes .entry)) (now (bytes .exit)) ⌝ }
@@ -45,13 +55,9 @@ fn mark(bytes: &mut [u8], k: usize, low: u8, high: u8)
     let mut b = low as usize;
     while b < end {
         let i = k * BYTE_SET + b / 8;
-        if b % 8 == 0 && b + 8 <= end {
-            bytes[i] = 255;
-            b += 8;
-        } else {
-            bytes[i] = bytes[i] | bit(b % 8);
-            b += 1;
-        }
+        let next = same_until(b, end);
+        bytes[i] = bytes[i] | bits(b % 8, (next - 1) % 8);
+        b = next;
     }
 }
 

@@ -2,11 +2,10 @@
 use Prim.Native.Nat.{_+_, _-_, _<_, _≤_}
 use mathlib.Core.Path.{_≡_, refl}
 use borrow.Author.Needs.{needs}
-use borrow.Author.Tests.{leb-true}
 use native.Mathlib.Omega.{arith}
 use lib.ListN.{length}
 use Rattle.scope.specs.Bytes.{between}
-use Rattle.pattern.proofs.Held.{Left, left-all, left-more, left-none, mark-bit, mark-eight, between-more, between-eight, between-none}
+use Rattle.pattern.proofs.Held.{Left, left-all, left-more, left-none, mark-range, between-split, between-none}
 use Rattle.pattern.proofs.leaves.mark.Statement.{statement}
 use Rattle.pattern.proofs.leaves.mark.Tie as tie
 
@@ -21,16 +20,10 @@ loop-holds c = (refl, search needs, refl, left-all _ _ _)
 
 loop-again : tie.Need-loop-again Inv-loop μ-loop
 loop-again c =
-    let l = c .before .before .before .loop in
-    let a = c .before .before .before .before .before .args in
-    let e : l .b + 8 ≤ a .high + 1 = leb-true _ _ (c .if2 .taken) in
-    (refl, search needs, search needs, left-more (l .inv .3) (mark-eight (a .k) (l .b) (l .bytes) (search needs) (search needs) (omega (arith, e))) (λ n h. between-eight (l .b) (a .high) n (c .before .if1 .taken) e))
-
-loop-again-2 : tie.Need-loop-again-2 Inv-loop μ-loop
-loop-again-2 c =
     let l = c .before .before .before .before .loop in
     let a = c .before .before .before .before .before .before .args in
-    (refl, search needs, search needs, left-more (l .inv .3) (mark-bit (a .k) (l .b) _ (l .bytes) (search needs) (search needs) (omega arith) (c .bit .ensures)) (λ n h. between-more (l .b) (a .high) n (omega arith)))
+    let (on, most, one) = c .before .before .same-until .ensures in
+    (refl, search needs, search needs, left-more (l .inv .3) (mark-range (a .k) (l .b) _ _ (l .bytes) (search needs) (search needs) (omega arith) one (c .bits .ensures)) (λ n h. between-split (l .b) _ (a .high) n on most))
 
 returns : tie.Need-returns Inv-loop μ-loop
 returns c = left-none (c .before .loop .inv .3) (λ n h. between-none (c .before .loop .b) (c .before .before .before .args .high) n (omega arith))
@@ -45,16 +38,12 @@ mark-spec =
     loop-holds
     (λ c. search needs)
     (λ c. search needs)
+    (λ c κs. search needs)
     (λ c. search needs)
-    (λ c. search needs)
-    (λ c. search needs)
-    (λ c. search needs)
-    loop-again
     (λ c. search needs)
     (λ c κs. search needs)
     (λ c. search needs)
     (λ c. search needs)
-    (λ c. search needs)
-    loop-again-2
+    loop-again
     (λ c. search needs)
     returns)
