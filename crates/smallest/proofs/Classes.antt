@@ -1,6 +1,7 @@
 -- Kinds of bytes with like columns share a class. A kind takes the first class whose leader it is alike to, or makes a new one, so classes are numbered by their first
 -- kind; and kinds stand in the order of their least bytes, so they are numbered by their smallest byte.
 --   merged-none, merged-inside, merged-old, merged-new: no kind; leaders are columns; one kind more
+--   mapped-same: where each column has the class of its own number, the bytes keep theirs
 --   classed: the classes of the bytes
 use Prim.Native.Nat.{ℕ, _+_, _≤_, _<_}
 use mathlib.Core.Path.{_≡_, refl, sym, _∙_}
@@ -12,11 +13,13 @@ use lib.ListN.{getD, set, replicate, length-set, length-replicate}
 use lib.Seq.{getD-set-same, getD-set-other}
 use Rattle.scope.specs.Limits.{byteValues, classesAt}
 use Rattle.scope.specs.Room.{classesOf, classOf, Below, Sound}
+use Rattle.scope.specs.Buffers.{Written}
 use Rattle.scope.proofs.Tests.{split, level}
 use Rattle.scope.proofs.Hole.{pigeon}
 use Rattle.parts.specs.Kinds.{KindsOf, Column}
 use Rattle.parts.proofs.ByKind.{kind-before}
 use Rattle.smallest.specs.Classes.{Alike, Distinct, Found, Led, Merged, Mapped, Classed}
+use Rattle.smallest.specs.Image.{SameOrder}
 use Rattle.smallest.proofs.Arrival.{First, arrival-came}
 use Rattle.smallest.proofs.ByKind.{kind-column}
 
@@ -101,6 +104,14 @@ module _ {a order into column sort leader : List ℕ} {n k e i : ℕ} (h : e < b
       kept c g = getD-set-other leader k c u 0 (λ y. omega arith)
 
 -- ---- all kinds, and so all bytes
+
+-- where each column has the class of its own number, the bytes keep theirs
+pub mapped-same : {a class : List ℕ} (sort : List ℕ) → Sound a → SameOrder sort (classesOf a) → Written byteValues (classOf a) (replicate byteValues 0) class → Mapped a sort class
+mapped-same {a} sort s o w = record {
+  size = w .size;
+  inside = λ x h. w .inside x h ∙ sym (o (classOf a x) (s .classes (classesAt + x) (omega arith) (omega arith)));
+  outside = w .outside;
+}
 
 module _ {a kind least column order into sort leader class : List ℕ} {kinds n k : ℕ} (s : Sound a) (t : KindsOf a a kind least kinds)
     (z : Column a least column kinds) (m : Merged a order into column sort leader n k kinds) (e : Mapped a sort class) where

@@ -1,9 +1,12 @@
 // The classes: the kinds of bytes whose columns lead each state to the same state. The kinds come in the order of their least bytes, and a kind is compared with the
 // first of each class so far, so the classes are numbered by their smallest byte.
+use crate::stay;
 use scope::Machine;
 ghost use Prim.Native.Nat.{_≤_, _<_};
+ghost use lib.ListN.{replicate};
 ghost use Rattle.scope.specs.Limits.{byteValues};
-ghost use Rattle.scope.specs.Room.{classesOf, Below, Sound};
+ghost use Rattle.scope.specs.Room.{classesOf, classOf, Below, Sound};
+ghost use Rattle.scope.specs.Buffers.{Written};
 ghost use Rattle.slices.specs.Parts.{Decides};
 ghost use Rattle.smallest.specs.Numbering.{Rows};
 ghost use Rattle.smallest.specs.Classes.{Alike, Distinct, Found, Merged, Mapped};
@@ -100,8 +103,22 @@ pub fn merge(
     }
 }
 
-// The class of each byte: that of its column.
-pub fn of_bytes(from: &[u8], sort: &[u8; Machine::BYTES]) -> [u8; Machine::BYTES]
+// The class of each byte in the room.
+fn of_room(from: &[u8]) -> [u8; Machine::BYTES]
+    requires { ⌜ Sound (now from) ⌝ }
+    ensures { λ r. ⌜ Written byteValues (classOf (now (from .entry))) (replicate byteValues 0) r ⌝ }
+{
+    let mut class = [0u8; Machine::BYTES];
+    let mut x: usize = 0;
+    while x < Machine::BYTES {
+        class[x] = from[Machine::CLASSES_AT + x];
+        x += 1;
+    }
+    class
+}
+
+// The class of each byte: that of its column, by the table.
+fn of_table(from: &[u8], sort: &[u8; Machine::BYTES]) -> [u8; Machine::BYTES]
     requires { ⌜ Sound (now from) ⌝ }
     ensures { λ r. ⌜ Mapped (now (from .entry)) (now (sort .entry)) r ⌝ }
 {
@@ -112,4 +129,15 @@ pub fn of_bytes(from: &[u8], sort: &[u8; Machine::BYTES]) -> [u8; Machine::BYTES
         x += 1;
     }
     class
+}
+
+// The class of each byte: that of its column. Mostly each column has the class of its own number, and then the bytes keep theirs.
+pub fn of_bytes(from: &[u8], sort: &[u8; Machine::BYTES]) -> [u8; Machine::BYTES]
+    requires { ⌜ Sound (now from) ⌝ }
+    ensures { λ r. ⌜ Mapped (now (from .entry)) (now (sort .entry)) r ⌝ }
+{
+    if stay::is_same_order(sort, from[1] as usize) {
+        return of_room(from);
+    }
+    of_table(from, sort)
 }

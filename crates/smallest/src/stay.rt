@@ -3,13 +3,13 @@ use crate::Plan;
 use scope::Machine;
 ghost use Prim.Native.Nat.{_≤_};
 ghost use lib.ListN.{length};
-ghost use Rattle.scope.specs.Limits.{byteValues, stateLimit, marksAt};
+ghost use Rattle.scope.specs.Limits.{byteValues, marksAt};
 ghost use Rattle.slices.specs.Parts.{Decides};
 ghost use Rattle.smallest.specs.Image.{Planned, SameOrder, SameClasses, Stays};
 
 // Whether each of the first n numbers stands for itself.
-fn is_same_order(order: &[u8; Machine::STATES], n: usize) -> bool
-    requires { ⌜ n ≤ stateLimit ⌝ }
+pub fn is_same_order(order: &[u8], n: usize) -> bool
+    requires { ⌜ (n ≤ length (now order)) × (n ≤ byteValues) ⌝ }
     ensures { λ r. ⌜ Decides r (SameOrder (now (order .entry)) n) ⌝ }
 {
     let mut q: usize = 0;
@@ -44,7 +44,7 @@ pub fn stays(room: &[u8], plan: Plan) -> bool
 {
     let n = plan.states;
     let k = plan.classes;
-    let order = plan.order;
+    let order = &plan.order;
     let class = plan.class;
     if n != room[0] as usize {
         return false;
@@ -52,7 +52,7 @@ pub fn stays(room: &[u8], plan: Plan) -> bool
     if k != room[1] as usize {
         return false;
     }
-    if !is_same_order(&order, n) {
+    if !is_same_order(order, n) {
         return false;
     }
     are_same_classes(room, &class)

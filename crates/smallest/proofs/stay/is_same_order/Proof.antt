@@ -17,11 +17,11 @@ abbrev μ-loop : tie.MeasureT-loop
 loop-holds : tie.Need-loop-holds Inv-loop μ-loop
 loop-holds c = (search needs, λ j h. absurd (omega arith))
 
-element-copy-out-if1 : tie.Need-element-copy-out-if1 Inv-loop μ-loop
-element-copy-out-if1 c = omega (arith, c .before .before .pre, c .loop-test .taken)
+shared-slice-read-if1 : tie.Need-shared-slice-read-if1 Inv-loop μ-loop
+shared-slice-read-if1 c = omega (arith, c .before .before .before .pre .0, c .before .loop-test .taken)
 
 cast-if1 : tie.Need-cast-if1 Inv-loop μ-loop
-cast-if1 c = omega (arith, c .before .before .before .pre, c .before .loop-test .taken)
+cast-if1 c = omega (arith, c .before .before .before .pre .1, c .before .loop-test .taken)
 
 returns : tie.Need-returns Inv-loop μ-loop
 returns c = fails (λ f. c .if1 .taken (f (c .before .before .before .loop .q) (c .before .before .loop-test .taken)))
@@ -39,4 +39,4 @@ returns-2 : tie.Need-returns-2 Inv-loop μ-loop
 returns-2 c = holds (λ j h. c .before .loop .inv .1 j (omega arith))
 
 pub is-same-order-spec : {M : Type 1} → statement M
-is-same-order-spec = tie.close (tie.spec Inv-loop μ-loop loop-holds element-copy-out-if1 cast-if1 returns add-q loop-less loop-again returns-2)
+is-same-order-spec = tie.close (tie.spec Inv-loop μ-loop loop-holds shared-slice-read-if1 cast-if1 returns add-q loop-less loop-again returns-2)
