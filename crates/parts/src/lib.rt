@@ -220,7 +220,7 @@ fn agree(
     true
 }
 
-// The least state that agrees with q, found by trying all of its part.
+// The least state that agrees with q, found by trying all of its part that begin a new one; next has the new parts of the states below q.
 fn scan(
     a: &[u8],
     b: &[u8],
@@ -228,18 +228,22 @@ fn scan(
     right: &[u8; Machine::BYTES],
     count: usize,
     part: &[u16; STATES],
+    next: &[u16; STATES],
     q: usize,
 ) -> usize
     requires { ⌜ Sound (now a) × Sound (now b) ⌝ }
     requires { ⌜ ColumnsOf (now a) (now b) (now left) (now right) count ⌝ }
     requires { ⌜ (q < statesOf (now a) + statesOf (now b)) × First (Alike (now part)) q (getD (now part) q 0) ⌝ }
+    requires { ⌜ Named (Agree ((both (now a) (now b)) .next) (now part)) (now next) q ⌝ }
     ensures { λ r. ⌜ First (Agree ((both (now (a .entry)) (now (b .entry))) .next) (now (part .entry))) q r ⌝ }
 {
     let mut p = part[q] as usize;
     while p < q {
-        if part[p] == part[q] {
-            if agree(a, b, left, right, count, part, p, q) {
-                return p;
+        if next[p] as usize == p {
+            if part[p] == part[q] {
+                if agree(a, b, left, right, count, part, p, q) {
+                    return p;
+                }
             }
         }
         p += 1;
@@ -322,6 +326,7 @@ fn place(
     rows: &[u8; ROWS],
     part: &[u16; STATES],
     link: &[u16; STATES],
+    next: &[u16; STATES],
     q: usize,
 ) -> usize
     requires { ⌜ Sound (now a) × Sound (now b) ⌝ }
@@ -329,12 +334,13 @@ fn place(
     requires { ⌜ (few ≡ true → Rows (now a) (now b) (now left) (now right) count (now rows) (q + 1)) ⌝ }
     requires { ⌜ (q < statesOf (now a) + statesOf (now b)) × First (Alike (now part)) q (getD (now part) q 0) × (getD (now part) q 0 < q) ⌝ }
     requires { ⌜ Chain (Agree ((both (now a) (now b)) .next) (now part)) (now part) (now link) q ⌝ }
+    requires { ⌜ Named (Agree ((both (now a) (now b)) .next) (now part)) (now next) q ⌝ }
     ensures { λ r. ⌜ First (Agree ((both (now (a .entry)) (now (b .entry))) .next) (now (part .entry))) q r ⌝ }
 {
     if few {
         walk(a, b, left, right, count, rows, part, link, q)
     } else {
-        scan(a, b, left, right, count, part, q)
+        scan(a, b, left, right, count, part, next, q)
     }
 }
 
@@ -472,7 +478,7 @@ fn round(
         let h = part[q] as usize;
         if h < q {
             if (sign(q) | sign(h)) & *touched != 0 {
-                let p = place(a, b, left, right, count, few, rows, part, link, q);
+                let p = place(a, b, left, right, count, few, rows, part, link, next, q);
                 if p != h {
                     next[q] = p as u16;
                     stirred = stirred | from[q];

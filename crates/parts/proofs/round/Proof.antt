@@ -43,10 +43,10 @@ loop-holds c = let a = c .before .before .before .before .args in
 
 place-requires : tie.Need-place-requires Inv-loop μ-loop
 place-requires c κs =
-    let d = c .before .before .before .before .before .before .before .before .before .before .before .before .before .pre in
-    let l = c .before .before .before .before .before .before .before .before .loop in
-    let h = c .before .before .before .before .before .before .before .loop-test .taken in
-    ((d .0 .left, d .0 .right), (d .1 .0, ((λ e. rows-less (d .1 .1 .0 e) (l .q + 1) (omega (arith, h))), ((omega (arith, h, d .0 .few), d .1 .1 .1 .0 (l .q) h, c .before .before .before .before .before .if1 .taken), l .inv .1 .passed .chain))))
+    let d = c .before .before .before .before .before .before .before .before .before .before .before .before .before .before .pre in
+    let l = c .before .before .before .before .before .before .before .before .before .loop in
+    let h = c .before .before .before .before .before .before .before .before .loop-test .taken in
+    ((d .0 .left, d .0 .right), (d .1 .0, ((λ e. rows-less (d .1 .1 .0 e) (l .q + 1) (omega (arith, h))), ((omega (arith, h, d .0 .few), d .1 .1 .1 .0 (l .q) h, c .before .before .before .before .before .before .if1 .taken), (l .inv .1 .passed .chain, l .inv .1 .passed .named .named)))))
 
 mul-h : tie.Need-mul-h Inv-loop μ-loop
 mul-h c = omega (arith, low c)
@@ -58,55 +58,55 @@ cast-h : tie.Need-cast-h Inv-loop μ-loop
 cast-h c = omega (arith, low (c .before))
 
 cast-next : tie.Need-cast-next Inv-loop μ-loop
-cast-next c = omega (arith, c .before .place .ensures .low, low (c .before .before .before .before .before .before .before .before .before))
+cast-next c = omega (arith, c .before .place .ensures .low, low (c .before .before .before .before .before .before .before .before .before .before))
 
 mul-next : tie.Need-mul-next Inv-loop μ-loop
-mul-next c = omega (arith, low (c .before .before .before .before .before .before .before .before .before))
+mul-next c = omega (arith, low (c .before .before .before .before .before .before .before .before .before .before))
 
 element-write-next : tie.Need-element-write-next Inv-loop μ-loop
-element-write-next c = omega (arith, low (c .before .before .before .before .before .before .before .before .before))
+element-write-next c = omega (arith, low (c .before .before .before .before .before .before .before .before .before .before))
 
 mul-stirred : tie.Need-mul-stirred Inv-loop μ-loop
-mul-stirred c = omega (arith, low (c .before .before .before .before .before .before .before .before .before))
+mul-stirred c = omega (arith, low (c .before .before .before .before .before .before .before .before .before .before))
 
 element-copy-out-stirred : tie.Need-element-copy-out-stirred Inv-loop μ-loop
-element-copy-out-stirred c = omega (arith, low (c .before .before .before .before .before .before .before .before .before))
+element-copy-out-stirred c = omega (arith, low (c .before .before .before .before .before .before .before .before .before .before))
 
 mul-link : tie.Need-mul-link Inv-loop μ-loop
-mul-link c = omega (arith, low (c .before .before .before .before .before .before .before .before .before .before .before))
+mul-link c = omega (arith, low (c .before .before .before .before .before .before .before .before .before .before .before .before))
 
 element-copy-out-link : tie.Need-element-copy-out-link Inv-loop μ-loop
-element-copy-out-link c = omega (arith, low (c .before .before .before .before .before .before .before .before .before .before .before))
+element-copy-out-link c = omega (arith, low (c .before .before .before .before .before .before .before .before .before .before .before .before))
 
 mul-link-2 : tie.Need-mul-link-2 Inv-loop μ-loop
-mul-link-2 c = omega (arith, low (c .before .before .before .before .before .before .before .before .before .before .before .before))
+mul-link-2 c = omega (arith, low (c .before .before .before .before .before .before .before .before .before .before .before .before .before))
 
 element-write-link : tie.Need-element-write-link Inv-loop μ-loop
-element-write-link c = omega (arith, low (c .before .before .before .before .before .before .before .before .before .before .before .before))
+element-write-link c = omega (arith, low (c .before .before .before .before .before .before .before .before .before .before .before .before .before))
 
 cast-link : tie.Need-cast-link Inv-loop μ-loop
-cast-link c = omega (arith, low (c .before .before .before .before .before .before .before .before .before .before .before .before))
+cast-link c = omega (arith, low (c .before .before .before .before .before .before .before .before .before .before .before .before .before))
 
 mul-link-3 : tie.Need-mul-link-3 Inv-loop μ-loop
-mul-link-3 c = omega (arith, low (c .before .before .before .before .before .before .before .before .before .before .before .before))
+mul-link-3 c = omega (arith, low (c .before .before .before .before .before .before .before .before .before .before .before .before .before))
 
 element-write-link-2 : tie.Need-element-write-link-2 Inv-loop μ-loop
-element-write-link-2 c = omega (arith, low (c .before .before .before .before .before .before .before .before .before .before .before .before))
+element-write-link-2 c = omega (arith, low (c .before .before .before .before .before .before .before .before .before .before .before .before .before))
 
 cast-parent : tie.Need-cast-parent Inv-loop μ-loop
-cast-parent c = omega (arith, low (c .before .before .before .before .before .before .before .before .before .before .before .before))
+cast-parent c = omega (arith, low (c .before .before .before .before .before .before .before .before .before .before .before .before .before))
 
 mul-parent : tie.Need-mul-parent Inv-loop μ-loop
-mul-parent c = omega (arith, low (c .before .before .before .before .before .before .before .before .before .before .before .before))
+mul-parent c = omega (arith, low (c .before .before .before .before .before .before .before .before .before .before .before .before .before))
 
 element-write-parent : tie.Need-element-write-parent Inv-loop μ-loop
-element-write-parent c = omega (arith, low (c .before .before .before .before .before .before .before .before .before .before .before .before))
+element-write-parent c = omega (arith, low (c .before .before .before .before .before .before .before .before .before .before .before .before .before))
 
 mul-born : tie.Need-mul-born Inv-loop μ-loop
-mul-born c = omega (arith, low (c .before .before .before .before .before .before .before .before .before .before .before .before))
+mul-born c = omega (arith, low (c .before .before .before .before .before .before .before .before .before .before .before .before .before))
 
 element-write-born : tie.Need-element-write-born Inv-loop μ-loop
-element-write-born c = omega (arith, low (c .before .before .before .before .before .before .before .before .before .before .before .before))
+element-write-born c = omega (arith, low (c .before .before .before .before .before .before .before .before .before .before .before .before .before))
 
 -- the state q is done
 come : (c : tie.Joined1 Inv-loop μ-loop) → let a = c .before .before .before .before .before .before .before .before .args in let i = c .if1 in
@@ -124,14 +124,14 @@ come c = let a = c .before .before .before .before .before .before .before .befo
     let next = (both (a .a .now) (a .b .now)) .next in
     let still : getD (l .next) (l .q) 0 ≡ getD (a .part .now) (l .q) 0 = p .named .kept (l .q) (omega arith) ∙ same in
     ⊎-elim
-    (λ w. rw (w .11, w .12, w .13, w .14, w .15, w .16, w .17, w .9 .taken)
-    (record { passed = passed-opened _ _ _ _ _ _ _ _ _ _ _ _ (z .0) (g .0) p (rw (w .9 .taken) at (w .6 .ensures)) (w .0 .taken) (f .like) (g .1) (g .2); stayed = stayed-moved (v .stayed) (l .q); watched = seen-past (v .watched) (w .0 .taken) }))
+    (λ w. rw (w .12, w .13, w .14, w .15, w .16, w .17, w .18, w .10 .taken)
+    (record { passed = passed-opened _ _ _ _ _ _ _ _ _ _ _ _ (z .0) (g .0) p (rw (w .10 .taken) at (w .7 .ensures)) (w .0 .taken) (f .like) (g .1) (g .2); stayed = stayed-moved (v .stayed) (l .q); watched = seen-past (v .watched) (w .0 .taken) }))
     (⊎-elim
-    (λ w. rw (w .10, w .11, w .12, w .13, w .14, w .15, w .16)
-    (record { passed = passed-joined _ _ _ _ _ _ _ _ _ _ _ _ (z .0) (g .0) p (w .6 .result) (w .6 .ensures) (w .9 .left) (z .1); stayed = stayed-moved (v .stayed) (w .6 .result); watched = seen-past (v .watched) (w .0 .taken) }))
+    (λ w. rw (w .11, w .12, w .13, w .14, w .15, w .16, w .17)
+    (record { passed = passed-joined _ _ _ _ _ _ _ _ _ _ _ _ (z .0) (g .0) p (w .7 .result) (w .7 .ensures) (w .10 .left) (z .1); stayed = stayed-moved (v .stayed) (w .7 .result); watched = seen-past (v .watched) (w .0 .taken) }))
     (⊎-elim
-    (λ w. rw (w .8, w .9, w .10, w .11, w .12, w .13, w .14)
-    (record { passed = passed-stays _ _ _ _ _ _ _ _ _ _ _ _ (z .0) (g .0) p same (rw (w .7 .left) at (w .6 .ensures)); stayed = stayed-still (v .stayed) still; watched = seen-past (v .watched) (w .0 .taken) }))
+    (λ w. rw (w .9, w .10, w .11, w .12, w .13, w .14, w .15)
+    (record { passed = passed-stays _ _ _ _ _ _ _ _ _ _ _ _ (z .0) (g .0) p same (rw (w .8 .left) at (w .7 .ensures)); stayed = stayed-still (v .stayed) still; watched = seen-past (v .watched) (w .0 .taken) }))
     (⊎-elim
     (λ w.
     let (e, h) = signs-none _ _ _ _ _ (w .1 .ensures) (w .2 .ensures) (w .4 .left) in
