@@ -1,7 +1,7 @@
 -- Rows, one cell after the other, and beside them the signs of the states that lead to a state.
 --   row-in, rows-less: a cell of the first n rows; fewer rows
 --   Noting: the loop over the kinds of one state
---   noting-none, noting-more, noting-rows, noting-end: its turns
+--   noting-none, noting-more, noting-set, noting-again, noting-rows, noting-end: its turns
 --   sources-more: the sources of one state more
 use Prim.Native.Nat.{ℕ, _+_, _*_, _%_, _^_, _≤_, _<_}
 use mathlib.Core.Path.{_≡_, refl, sym, _∙_}
@@ -34,8 +34,9 @@ module _ {a b left right : List ℕ} {count : ℕ} {rows : List ℕ} {n : ℕ} (
   pub rows-less : (k : ℕ) → k ≤ n → Rows a b left right count rows k
   rows-less k h = record { fits = omega (arith, mul-le-mul-right count h, d .fits); cell = λ q i g l. d .cell q i (omega arith) l }
 
--- the cells of the states below q, and the first i of q, are in their rows if there are rows; from has what from₀ has, and the sign of q with the states of these i cells
-pub record Noting (a b left right : List ℕ) (count q : ℕ) (few : Bool) (from₀ rows from : List ℕ) (i : ℕ) : Type 0 where
+-- the cells of the states below q, and the first i of q, are in their rows if there are rows; from has what from₀ has, and the sign of q with the states of these i cells;
+-- last is such a state, or none
+pub record Noting (a b left right : List ℕ) (count q : ℕ) (few : Bool) (from₀ rows from : List ℕ) (last i : ℕ) : Type 0 where
   pub within : i ≤ count
   pub rows-long : length rows ≡ rowBytes
   pub from-long : length from ≡ 256
@@ -43,10 +44,11 @@ pub record Noting (a b left right : List ℕ) (count q : ℕ) (few : Bool) (from
   pub row : few ≡ true → (j : ℕ) → j < i → RowCell a b left right count rows q j
   pub kept : (y k : ℕ) → has (getD from₀ y 0) k ≡ true → has (getD from y 0) k ≡ true
   pub aimed : (j : ℕ) → j < i → has (getD from (cellIn a b q (getD left j 0) (getD right j 0)) 0) (q % signs) ≡ true
+  pub done : last < 256 → has (getD from last 0) (q % signs) ≡ true
 
 module _ {a b left right : List ℕ} {count q : ℕ} {few : Bool} where
   -- no kind yet
-  pub noting-none : {rows from : List ℕ} → length rows ≡ rowBytes → length from ≡ 256 → (few ≡ true → Rows a b left right count rows q) → Noting a b left right count q few from rows from 0
+  pub noting-none : {rows from : List ℕ} → length rows ≡ rowBytes → length from ≡ 256 → (few ≡ true → Rows a b left right count rows q) → Noting a b left right count q few from rows from 256 0
   noting-none l m d = record {
     within = omega arith;
     rows-long = l;
@@ -55,27 +57,26 @@ module _ {a b left right : List ℕ} {count q : ℕ} {few : Bool} where
     row = λ e j h. absurd (omega arith);
     kept = λ y k h. h;
     aimed = λ j h. absurd (omega arith);
+    done = λ h. absurd (omega arith);
   }
 
-  module _ {from₀ rows from : List ℕ} {i : ℕ} (d : Noting a b left right count q few from₀ rows from i) where
-    -- one kind more, which leads to y
-    pub noting-more : {rows′ : List ℕ} {y s : ℕ} → i < count → y < 256 → y ≡ cellIn a b q (getD left i 0) (getD right i 0) → s ≡ 2 ^ (q % signs) → length rows′ ≡ rowBytes
-        → (few ≡ true → (q * count + i < rowBytes) × (rows′ ≡ set rows (q * count + i) y)) → Noting a b left right count q few from₀ rows′ (set from y (bitOr (getD from y 0) s)) (i + 1)
-    noting-more {rows′} {y} {s} l m e g long u = record {
+  module _ {from₀ rows from : List ℕ} {last i : ℕ} (d : Noting a b left right count q few from₀ rows from last i) {rows′ : List ℕ} {y : ℕ} (l : i < count) (m : y < 256)
+      (e : y ≡ cellIn a b q (getD left i 0) (getD right i 0)) (long : length rows′ ≡ rowBytes) (u : few ≡ true → (q * count + i < rowBytes) × (rows′ ≡ set rows (q * count + i) y)) where
+    -- one kind more, which leads to y, where the sign of q is noted
+    noting-more : {from′ : List ℕ} → length from′ ≡ 256 → ((x k : ℕ) → has (getD from x 0) k ≡ true → has (getD from′ x 0) k ≡ true) → has (getD from′ y 0) (q % signs) ≡ true
+        → Noting a b left right count q few from₀ rows′ from′ y (i + 1)
+    noting-more {from′} wide still here = record {
       within = omega arith;
       rows-long = long;
-      from-long = length-set from y (bitOr (getD from y 0) s) ∙ d .from-long;
+      from-long = wide;
       before = λ f p j h k. let z = flat-in q count p j h k in other f p j (λ x. omega arith) (d .before f p j h k);
       row = λ f. below-more (RowCell a b left right count rows′ q) i (λ j h. other f q j (λ x. omega arith) (d .row f j h)) (own f);
       kept = λ x k h. still x k (d .kept x k h);
       aimed = below-more (λ (j : ℕ). has (getD from′ (cellIn a b q (getD left j 0) (getD right j 0)) 0) (q % signs) ≡ true) i
-          (λ j h. still (cellIn a b q (getD left j 0) (getD right j 0)) (q % signs) (d .aimed j h))
-          (rw (← e, here) (or-right (getD from y 0) s (q % signs) (rw g (sign-own q))));
+          (λ j h. still (cellIn a b q (getD left j 0) (getD right j 0)) (q % signs) (d .aimed j h)) (rw (← e) here);
+      done = λ h. here;
     }
       where
-        from′ : List ℕ
-        from′ = set from y (bitOr (getD from y 0) s)
-
         other : few ≡ true → (p j : ℕ) → (p * count + j ≡ q * count + i → ⊥) → RowCell a b left right count rows p j → RowCell a b left right count rows′ p j
         other f p j n r =
             let z : getD rows′ (p * count + j) 0 ≡ getD rows (p * count + j) 0 = rw (u f .1) (getD-set-other rows (q * count + i) (p * count + j) y 0 n) in
@@ -86,16 +87,24 @@ module _ {a b left right : List ℕ} {count q : ℕ} {few : Bool} where
             let z : getD rows′ (q * count + i) 0 ≡ y = rw (u f .1) (getD-set-same rows (q * count + i) y 0 (omega (arith, d .rows-long, u f .0))) in
             record { is = z ∙ e; below = omega (arith, z) }
 
-        here : getD from′ y 0 ≡ bitOr (getD from y 0) s
+    -- it is noted now
+    pub noting-set : {s : ℕ} → s ≡ 2 ^ (q % signs) → Noting a b left right count q few from₀ rows′ (set from y (bitOr (getD from y 0) s)) y (i + 1)
+    noting-set {s} g = noting-more (length-set from y (bitOr (getD from y 0) s) ∙ d .from-long) still (rw here (or-right (getD from y 0) s (q % signs) (rw g (sign-own q))))
+      where
+        here : getD (set from y (bitOr (getD from y 0) s)) y 0 ≡ bitOr (getD from y 0) s
         here = getD-set-same from y (bitOr (getD from y 0) s) 0 (omega (arith, d .from-long))
 
-        still : (x k : ℕ) → has (getD from x 0) k ≡ true → has (getD from′ x 0) k ≡ true
+        still : (x k : ℕ) → has (getD from x 0) k ≡ true → has (getD (set from y (bitOr (getD from y 0) s)) x 0) k ≡ true
         still x k h = elim (ℕ-discrete x y) [
           | yes z ↦ (rw (z, here) (or-left (getD from y 0) s k (rw z at h)))
           | no z ↦ (rw (getD-set-other from y x (bitOr (getD from y 0) s) 0 z) h)
         ]
 
-  module _ {from₀ rows from : List ℕ} (d : Noting a b left right count q few from₀ rows from count) where
+    -- or was before
+    pub noting-again : y ≡ last → Noting a b left right count q few from₀ rows′ from last (i + 1)
+    noting-again z = rw (← z) (noting-more (d .from-long) (λ x k h. h) (rw z (d .done (omega arith))))
+
+  module _ {from₀ rows from : List ℕ} {last : ℕ} (d : Noting a b left right count q few from₀ rows from last count) where
     -- all kinds: the row of q is there
     pub noting-rows : (few ≡ true → (q + 1) * count ≤ rowBytes) → few ≡ true → Rows a b left right count rows (q + 1)
     noting-rows f e = record {

@@ -377,7 +377,8 @@ fn seek(s: u64, q: usize, n: usize) -> usize
     n
 }
 
-// Notes for each kind the cell of the state q, in its row if there are rows, and the sign of q with the state that it leads to.
+// Notes for each kind the cell of the state q, in its row if there are rows, and the sign of q with the state that it leads to. Where the kind before leads there too,
+// the sign is noted already.
 fn note(
     a: &[u8],
     b: &[u8],
@@ -399,18 +400,22 @@ fn note(
 {
     let s = sign(q);
     let x = q * count;
+    let mut last = STATES;
     let mut i: usize = 0;
     while i < count {
         let y = cell(a, b, left, right, q, i);
         if few {
             rows[x + i] = y as u8;
         }
-        from[y] = from[y] | s;
+        if y != last {
+            from[y] = from[y] | s;
+            last = y;
+        }
         i += 1;
     }
 }
 
-// Notes the first n states, where nothing is noted.
+// Notes the first n states.
 fn note_all(
     a: &[u8],
     b: &[u8],

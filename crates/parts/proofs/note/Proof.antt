@@ -1,23 +1,23 @@
 -- The cells of the kinds below i are noted, and the sign of q with the states that they lead to.
 use Prim.Native.Nat.{_+_, _*_, _-_, _≤_, _<_}
-use mathlib.Core.Path.{_≡_, refl, sym, _∙_}
+use mathlib.Core.Path.{_≡_, sym, _∙_}
 use mathlib.Core.Logic.{⊎-elim}
 use mathlib.Core.Bool.{true, true≢false}
 use native.Mathlib.Nat.{mul-le-mul}
 use native.Mathlib.Omega.{arith}
 use borrow.Author.Needs.{needs}
-use lib.ListN.{length-set}
+use lib.ListN.{length, set, length-set}
 use Rattle.scope.proofs.Room.{flat-in}
 use Rattle.parts.specs.Rows.{rowBytes}
-use Rattle.parts.proofs.Rows.{Noting, noting-none, noting-more, noting-rows, noting-end}
+use Rattle.parts.proofs.Rows.{Noting, noting-none, noting-set, noting-again, noting-rows, noting-end}
 use Rattle.parts.proofs.note.Statement.{statement}
 use Rattle.parts.proofs.note.Tie as tie
 
 abbrev Inv-loop : tie.InvT-loop
-Inv-loop a b left right count q few rows₀ from₀ s x i₀ rows from i = Noting a b left right count q few from₀ rows from i
+Inv-loop a b left right count q few rows₀ from₀ s x last₀ i₀ rows from last i = Noting a b left right count q few from₀ rows from last i
 
 abbrev μ-loop : tie.MeasureT-loop
-μ-loop a b left right count q few rows₀ from₀ s x i₀ rows from i = count - i
+μ-loop a b left right count q few rows₀ from₀ s x last₀ i₀ rows from last i = count - i
 
 mul-x : tie.Need-mul-x Inv-loop μ-loop
 mul-x c = let d = c .before .before .before .pre in
@@ -49,25 +49,34 @@ element-write-rows : tie.Need-element-write-rows Inv-loop μ-loop
 element-write-rows c = omega (arith, in-row (c .before .before) (c .if1 .taken), c .before .before .before .loop .inv .rows-long)
 
 mul-from : tie.Need-mul-from Inv-loop μ-loop
-mul-from c = omega (arith, state (c .before))
+mul-from c = omega (arith, state (c .before .before))
 
 element-copy-out-from : tie.Need-element-copy-out-from Inv-loop μ-loop
-element-copy-out-from c = omega (arith, state (c .before), c .before .before .before .loop .inv .from-long)
+element-copy-out-from c = omega (arith, state (c .before .before), c .before .before .before .before .loop .inv .from-long)
 
 mul-from-2 : tie.Need-mul-from-2 Inv-loop μ-loop
-mul-from-2 c = omega (arith, state (c .before .before))
+mul-from-2 c = omega (arith, state (c .before .before .before))
 
 element-write-from : tie.Need-element-write-from Inv-loop μ-loop
-element-write-from c = omega (arith, state (c .before .before), c .before .before .before .before .loop .inv .from-long)
+element-write-from c = omega (arith, state (c .before .before .before), c .before .before .before .before .before .loop .inv .from-long)
+
+-- the rows with the cell, if there are rows
+rows-now : (c : tie.Joined1 Inv-loop μ-loop) → let s = c .before .before .before .before .before .before .before .args in
+    let x = s .q * s .count + c .before .before .before .loop .i in
+    (length (c .if1 .rows) ≡ rowBytes) × (s .few ≡ true → (x < rowBytes) × (c .if1 .rows ≡ set (c .before .before .before .loop .rows) x (c .before .cell .result)))
+rows-now c = let v = c .before .before .before .loop .inv in
+    ⊎-elim
+    (λ w. (rw (w .1) (simp length-set (v .rows-long)), λ e. (in-row (c .before .before) e, w .1)))
+    (λ w. (rw (w .1) (v .rows-long), λ e. absurd (true≢false (sym e ∙ w .0 .left))))
+    (c .if1 .came)
 
 loop-again : tie.Need-loop-again Inv-loop μ-loop
 loop-again c = let v = c .before .before .before .before .loop .inv in
-    let y = c .before .before .cell in
     let l = c .before .before .before .loop-test .taken in
-    ⊎-elim
-    (λ w. rw (w .1) (noting-more v l (state (c .before .before)) (y .ensures .0) (c .before .before .before .before .before .sign .ensures) (simp length-set (v .rows-long)) (λ e. (in-row (c .before .before .before) e, refl))))
-    (λ w. rw (w .1) (noting-more v l (state (c .before .before)) (y .ensures .0) (c .before .before .before .before .before .sign .ensures) (v .rows-long) (λ e. absurd (true≢false (sym e ∙ w .0 .left)))))
-    (c .before .if1 .came)
+    let m = state (c .before .before) in
+    let e = c .before .before .cell .ensures .0 in
+    let (long, u) = rows-now (c .before) in
+    ⊎-elim (λ w. rw (w .2, w .3) (noting-set v l m e long u (c .before .before .before .before .before .sign .ensures))) (λ w. rw (w .1, w .2) (noting-again v l m e long u (w .0 .left))) (c .if2 .came)
 
 returns : tie.Need-returns Inv-loop μ-loop
 returns c = let d = c .before .before .before .before .before .pre in
