@@ -16,9 +16,8 @@ use native.Mathlib.Omega.{arith}
 use native.Mathlib.Decide.{ℕ-discrete}
 use borrow.Author.Count.{below-more}
 use lib.Seq.{getD-set-same, getD-set-other}
-use lib.ListN.{length, getD, set, replicate, length-set}
+use lib.ListN.{length, getD, set, length-set}
 use Rattle.scope.proofs.Tests.{split}
-use Rattle.scope.proofs.Lists.{zeros}
 use Rattle.slices.specs.Parts.{Decides}
 use Rattle.slices.proofs.Laws.{holds, fails}
 use Rattle.parts.specs.Parts.{First, Named, Renamed, Alike, Agree}

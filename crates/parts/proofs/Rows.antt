@@ -4,9 +4,8 @@
 --   noting-none, noting-more, noting-set, noting-again, noting-rows, noting-end: its turns
 --   sources-more: the sources of one state more
 use Prim.Native.Nat.{ℕ, _+_, _*_, _%_, _^_, _≤_, _<_}
-use mathlib.Core.Path.{_≡_, refl, sym, _∙_}
+use mathlib.Core.Path.{_≡_, _∙_}
 use mathlib.Core.Bool.{Bool, true}
-use mathlib.Core.Logic.{inl, inr}
 use mathlib.Core.List.{List}
 use native.Mathlib.Nat.{mul-le-mul-right}
 use native.Mathlib.Omega.{arith}
@@ -17,7 +16,6 @@ use lib.ListN.{length, getD, set, length-set}
 use lib.Seq.{getD-set-same, getD-set-other}
 use Rattle.scope.specs.Bits.{has}
 use Rattle.scope.proofs.Room.{flat-in}
-use Rattle.scope.proofs.Tests.{split}
 use Rattle.parts.specs.Side.{both, cellIn}
 use Rattle.parts.specs.Kinds.{ColumnsOf}
 use Rattle.parts.specs.Rows.{rowBytes, RowCell, Rows}

@@ -1,5 +1,4 @@
 -- A set that was guessed or is found, or has no room, changes nothing; one that is new is stored at the end.
-use mathlib.Core.Path.{_∙_, sym, ap}
 use native.Mathlib.Omega.{arith}
 use borrow.Author.Needs.{needs}
 use Rattle.sets.specs.Value.{value}
