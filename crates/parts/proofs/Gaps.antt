@@ -1,6 +1,7 @@
 -- A pass leaves out the states that cannot have moved: neither they nor those that begin their parts are touched, so they agree still and stay in their parts.
 --   up: what holds of q, and with each number of the next, holds of all from q on
 --   Come: the pass has come to the state q, with what stirred and what is seen
+--   come-as: the same, said of equal lists and words
 --   come-gap: the states that are passed over
 use Prim.Native.Nat.{ℕ, zero, suc, _+_, _-_, _≤_, _<_}
 use mathlib.Core.Path.{_≡_, _∙_}
@@ -26,6 +27,12 @@ pub record Come (next : ℕ → ℕ → ℕ) (old new₀ new link parent parent�
   pub passed : Passed (Agree next old) old new₀ new link parent parent′ born born′ r opened q
   pub stayed : Stayed old new from q stirred
   pub watched : Seen old touched seen q
+
+-- the same, said of equal lists and words
+pub come-as : {next : ℕ → ℕ → ℕ} {old new₀ new new′ link link′ parent parent′ parent″ born born′ born″ from : List ℕ} {r : ℕ} {opened opened′ : Bool} {stirred stirred′ touched seen seen′ q : ℕ}
+    → link′ ≡ link → new′ ≡ new → parent″ ≡ parent′ → born″ ≡ born′ → opened′ ≡ opened → stirred′ ≡ stirred → seen′ ≡ seen
+    → Come next old new₀ new link parent parent′ born born′ from r opened stirred touched seen q → Come next old new₀ new′ link′ parent parent″ born born″ from r opened′ stirred′ touched seen′ q
+come-as e f g h i j k d = rw (e, f, g, h, i, j, k) d
 
 -- the states that are passed over
 pub come-gap : {next : ℕ → ℕ → ℕ} {old new₀ new link parent parent′ born born′ from : List ℕ} {r : ℕ} {opened : Bool} {stirred touched seen q n e : ℕ} → n ≤ 256 → length new₀ ≡ 256

@@ -3,7 +3,7 @@
 --   chain-low, last-more: a state of a chain is below the next to be placed; the last stays the last while none is added
 --   Tried R old h q p: of the chain only p, and what it leads to, is still to be compared with q
 --   tried-first, tried-more, tried-less: comparing along the chain
---   place-old, place-head, place-still, place-found, place-heads, place-none: the state itself, that which begins the old part, or one of the chain is the first that agrees
+--   place-old, place-head, place-still, place-found, place-none: the state itself, that which begins the old part, or one of the chain is the first that agrees
 --   Passed R old new₀ new link parent parent′ born born′ r opened q: the pass has come to the state q
 --   chain-kept, chain-opened: what that does to the links
 --   passed-none, passed-stays, passed-joined, passed-opened: a state stays in its part, joins a new one, or opens one
@@ -22,7 +22,7 @@ use Rattle.slices.specs.Parts.{Decides}
 use Rattle.slices.proofs.Laws.{holds, fails}
 use Rattle.parts.specs.Parts.{First, Named, Renamed, Alike, Agree}
 use Rattle.parts.specs.Round.{Within, Last, Chain, Opens, Opened, Births}
-use Rattle.parts.proofs.Names.{first-own, named-name, renamed-none, renamed-more, agree-itself, agree-flip, agree-chain}
+use Rattle.parts.proofs.Names.{first-own, renamed-none, renamed-more, agree-itself, agree-flip, agree-chain}
 
 -- a state of a chain, or 0 at its end, is below the next to be placed
 pub chain-low : (R : ℕ → ℕ → Type 0) (old : List ℕ) (h e l : ℕ) → h < e → (0 < l → Within R old h e l) → l < e
@@ -74,12 +74,6 @@ module _ (next : ℕ → ℕ → ℕ) (old : List ℕ) (q : ℕ) (f : First (Ali
   -- a state of the chain agrees
   pub place-found : (p : ℕ) → Within R old h q p → R p q → First R q p
   place-found p w e = found p (omega (arith, w .below)) (w .begins) e
-
-  -- no state that begins a new part agrees: none does
-  pub place-heads : (new : List ℕ) → Named R new q → (p : ℕ) → p ≤ q → ((j : ℕ) → j < p → getD new j 0 ≡ j → R j q → ⊥) → (j : ℕ) → j < p → R j q → ⊥
-  place-heads new d p l n j h e =
-      let g = d j (omega arith) in
-      n (getD new j 0) (omega (arith, g .low)) (named-name R (agree-itself next old) (agree-flip next old) (agree-chain next old) new q d j (omega arith)) (agree-chain next old (getD new j 0) j q (g .like) e)
 
   module _ (link : List ℕ) (c : Chain R old link q) where
     -- all of the chain is to be compared

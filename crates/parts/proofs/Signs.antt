@@ -2,7 +2,7 @@
 --   or-left, or-right, or-none, and-none: bits of words
 --   sign-own, signs-none: a sign has its own bit; the signs of two states are not in a word
 --   zeros-in, gap-more, gap-zeros, gap-none: states that are passed over
---   steady-first, steady-next: before the first round every sign is there; after a round, those of the states that lead to one that moved
+--   steady-first, steady-next: before the first round the signs of the states that lead to one not of the first part are there; after a round, those of the states that lead to one that moved
 --   stayed-none, stayed-still, stayed-moved, stayed-gap: the signs of a round, state by state
 --   Seen part touched seen q: seen has what touched has, and everything if a state below q that begins a part is touched
 --   seen-none, seen-all, seen-past, seen-gap: what is seen, state by state
@@ -89,11 +89,13 @@ module _ (s q x : ℕ) (g : Gap s q x) where
 
 -- ---- rounds
 
--- every sign is there
-pub steady-first : (next : ℕ → ℕ → ℕ) (part : List ℕ) (n : ℕ) → Steady next part n 18446744073709551615
-steady-first next part n = record {
-  agree = λ p q hp hq e c d. absurd (true≢false (sym (has-ones 64 (p % signs) (mod-lt p (lit< tt))) ∙ c));
-}
+-- all parts were 0, and those of the states that lead to one that is no longer 0 are touched
+pub steady-first : {M : Machine} {old part from : List ℕ} {s : ℕ} → Closed M → Sources (M .next) (M .states) from → ((q : ℕ) → getD old q 0 ≡ 0) → Stayed old part from (M .states) s
+    → Steady (M .next) part (M .states) s
+steady-first {M} {old} {part} {from} {s} c o z f = record { agree = λ p q hp hq e x y. record { here = e; there = λ b h. still p b hp h x ∙ sym (still q b hq h y) } }
+  where
+    still : (q b : ℕ) → q < M .states → b < 256 → has s (q % signs) ≡ false → getD part (M .next q b) 0 ≡ 0
+    still q b h l e = f .part (M .next q b) (q % signs) (c .inside q b h l) (o q b h l) e ∙ z (M .next q b)
 
 -- the states of one new part agreed in the old ones, and lead to states that have their old part if they are not touched; part: the new ones, copied
 pub steady-next : {M : Machine} {old new₀ new part₀ part from : List ℕ} {s : ℕ} → Closed M → Sources (M .next) (M .states) from → Renamed (Agree (M .next) old) new₀ new (M .states)

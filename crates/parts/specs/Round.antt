@@ -2,13 +2,15 @@
 --   Within R old h e l: l is below e and begins a new part within the old part that h begins
 --   Last R old h e l: l is the last such state; 0 if there is none
 --   Chain R old link e: from h, link leads to the last such state, and from each to the one before it; each state below e has a first
+--   Opening q h p r link link′ parent parent′ born born′: p is q, which is now the last of the chain of h, and born from h in round r
+--   Joining q p link link′ parent parent′ born born′: p is another state, and all that stays as it was
 --   Opens old new x: x begins a part in new and not in old
 --   Opened old new e: some state below e does
 --   Births old new parent parent′ born born′ r e: the states below e that do are born in round r; for the others nothing has changed
 use Prim.Native.Nat.{ℕ, _<_}
 use mathlib.Core.Path.{_≡_}
 use mathlib.Core.List.{List}
-use lib.ListN.{length, getD}
+use lib.ListN.{length, getD, set}
 use Rattle.parts.specs.Parts.{First}
 
 pub record Within (R : ℕ → ℕ → Type 0) (old : List ℕ) (h e l : ℕ) : Type 0 where
@@ -25,6 +27,18 @@ pub record Chain (R : ℕ → ℕ → Type 0) (old link : List ℕ) (e : ℕ) : 
   pub top : (h : ℕ) → h < e → getD old h 0 ≡ h → Last R old h e (getD link h 0)
   pub down : (p : ℕ) → p < e → First R p p → getD old p 0 < p → Last R old (getD old p 0) p (getD link p 0)
   pub begun : (p : ℕ) → p < e → (x : ℕ) × First R p x
+
+pub record Opening (q h p r : ℕ) (link link′ parent parent′ born born′ : List ℕ) : Type 0 where
+  pub own : p ≡ q
+  pub links : link′ ≡ set (set link q (getD link h 0)) h q
+  pub parents : parent′ ≡ set parent q h
+  pub births : born′ ≡ set born q r
+
+pub record Joining (q p : ℕ) (link link′ parent parent′ born born′ : List ℕ) : Type 0 where
+  pub other : p ≡ q → ⊥
+  pub links : link′ ≡ link
+  pub parents : parent′ ≡ parent
+  pub births : born′ ≡ born
 
 pub record Opens (old new : List ℕ) (x : ℕ) : Type 0 where
   pub begins : getD new x 0 ≡ x

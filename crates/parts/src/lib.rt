@@ -8,9 +8,9 @@
 // is found by climbing.
 use scope::Machine;
 ghost use mathlib.Core.Path.{_≡_};
-ghost use mathlib.Core.Bool.{true};
+ghost use mathlib.Core.Bool.{true, false};
 ghost use Prim.Native.Nat.{ℕ, _+_, _*_, _%_, _^_, _≤_, _<_};
-ghost use lib.ListN.{length, getD, replicate};
+ghost use lib.ListN.{length, getD, set, replicate};
 ghost use Rattle.scope.specs.Limits.{byteValues, stateLimit};
 ghost use Rattle.scope.specs.Room.{statesOf, Below, Sound};
 ghost use Rattle.scope.specs.Rounds.{Together};
@@ -21,7 +21,7 @@ ghost use Rattle.parts.specs.Kinds.{pairOf, stretch, Level, KindAt, Kind
 ghost use Rattle.parts.specs.Parts.{First, Named, Renamed, Alike, Agree};
 ghost use Rattle.parts.specs.Rows.{rowBytes, Rows};
 ghost use Rattle.parts.specs.Signs.{signs, Gap, Sources, Noted, Steady, Stayed};
-ghost use Rattle.parts.specs.Round.{Chain, Opened, Births};
+ghost use Rattle.parts.specs.Round.{Chain, Opening, Joining, Opened, Births};
 ghost use Rattle.parts.specs.Refined.{Refined, Climbs, Climbed};
 
 // The most states that two rooms have.
@@ -151,13 +151,16 @@ fn mark(a: &[u8], b: &[u8], q: usize) -> u8
     }
 }
 
-// Round 0: the parts by mark, where all are 0.
-fn begin(a: &[u8], b: &[u8], n: usize, part: &mut [u16; STATES])
+// Round 0: the parts by mark, where all are 0; the signs of the states that a byte leads to one that is not of the first part.
+fn begin(a: &[u8], b: &[u8], from: &[u64; STATES], n: usize, part: &mut [u16; STATES]) -> u64
     requires { ⌜ Side (now a) (now b) n ⌝ }
+    requires { ⌜ Sources ((both (now a) (now b)) .next) n (now from) ⌝ }
     requires { ⌜ now part ≡ replicate (stateLimit + stateLimit) 0 ⌝ }
     ensures { λ _. ⌜ (length (now (part .exit)) ≡ stateLimit + stateLimit) × Named (Together (side (now (a .entry)) (now (b .entry)) n) 0) (now (part .exit)) n ⌝ }
+    ensures { λ r. ⌜ Steady ((both (now (a .entry)) (now (b .entry))) .next) (now (part .exit)) n r ⌝ }
 {
     let m = mark(a, b, 0);
+    let mut touched: u64 = 0;
     let mut other: usize = 0;
     let mut q: usize = 0;
     while q < n {
@@ -166,9 +169,11 @@ fn begin(a: &[u8], b: &[u8], n: usize, part: &mut [u16; STATES])
                 other = q;
             }
             part[q] = other as u16;
+            touched = touched | from[q];
         }
         q += 1;
     }
+    touched
 }
 
 // The state after q on the bytes of the kind i.
@@ -192,8 +197,8 @@ fn cell(
     }
 }
 
-// Whether each byte leads p and q, which lie in one part, into one part.
-fn agree(
+// Whether each byte leads p and q, which lie in one part, into one part, by the cells of the rooms.
+fn agree_cells(
     a: &[u8],
     b: &[u8],
     left: &[u8; Machine::BYTES],
@@ -218,37 +223,6 @@ fn agree(
         i += 1;
     }
     true
-}
-
-// The least state that agrees with q, found by trying all of its part that begin a new one; next has the new parts of the states below q.
-fn scan(
-    a: &[u8],
-    b: &[u8],
-    left: &[u8; Machine::BYTES],
-    right: &[u8; Machine::BYTES],
-    count: usize,
-    part: &[u16; STATES],
-    next: &[u16; STATES],
-    q: usize,
-) -> usize
-    requires { ⌜ Sound (now a) × Sound (now b) ⌝ }
-    requires { ⌜ ColumnsOf (now a) (now b) (now left) (now right) count ⌝ }
-    requires { ⌜ (q < statesOf (now a) + statesOf (now b)) × First (Alike (now part)) q (getD (now part) q 0) ⌝ }
-    requires { ⌜ Named (Agree ((both (now a) (now b)) .next) (now part)) (now next) q ⌝ }
-    ensures { λ r. ⌜ First (Agree ((both (now (a .entry)) (now (b .entry))) .next) (now (part .entry))) q r ⌝ }
-{
-    let mut p = part[q] as usize;
-    while p < q {
-        if next[p] as usize == p {
-            if part[p] == part[q] {
-                if agree(a, b, left, right, count, part, p, q) {
-                    return p;
-                }
-            }
-        }
-        p += 1;
-    }
-    q
 }
 
 // How many cells there is room for in rows. Most pairs of machines have fewer.
@@ -283,40 +257,34 @@ fn agree_rows(
     true
 }
 
-// The least state that agrees with q, which does not begin its part; from the state that does, link leads to all below q that begin new parts within it.
-fn walk(
+// Whether each byte leads p and q, which lie in one part, into one part; `few`: there are rows.
+fn agree(
     a: &[u8],
     b: &[u8],
     left: &[u8; Machine::BYTES],
     right: &[u8; Machine::BYTES],
     count: usize,
+    few: bool,
     rows: &[u8; ROWS],
     part: &[u16; STATES],
-    link: &[u16; STATES],
+    p: usize,
     q: usize,
-) -> usize
+) -> bool
+    requires { ⌜ Sound (now a) × Sound (now b) ⌝ }
     requires { ⌜ ColumnsOf (now a) (now b) (now left) (now right) count ⌝ }
-    requires { ⌜ Rows (now a) (now b) (now left) (now right) count (now rows) (q + 1) ⌝ }
-    requires { ⌜ (q < stateLimit + stateLimit) × First (Alike (now part)) q (getD (now part) q 0) × (getD (now part) q 0 < q) ⌝ }
-    requires { ⌜ Chain (Agree ((both (now a) (now b)) .next) (now part)) (now part) (now link) q ⌝ }
-    ensures { λ r. ⌜ First (Agree ((both (now (a .entry)) (now (b .entry))) .next) (now (part .entry))) q r ⌝ }
+    requires { ⌜ (few ≡ true → Rows (now a) (now b) (now left) (now right) count (now rows) (q + 1)) ⌝ }
+    requires { ⌜ (p ≤ q) × (q < statesOf (now a) + statesOf (now b)) × Alike (now part) p q ⌝ }
+    ensures { λ r. ⌜ Decides r (Agree ((both (now (a .entry)) (now (b .entry))) .next) (now (part .entry)) p q) ⌝ }
 {
-    let h = part[q] as usize;
-    if agree_rows(a, b, left, right, count, rows, part, h, q) {
-        return h;
+    if few {
+        agree_rows(a, b, left, right, count, rows, part, p, q)
+    } else {
+        agree_cells(a, b, left, right, count, part, p, q)
     }
-    let mut p = link[h] as usize;
-    while 0 < p {
-        if agree_rows(a, b, left, right, count, rows, part, p, q) {
-            return p;
-        }
-        p = link[p] as usize;
-    }
-    q
 }
 
-// The least state that agrees with q, which does not begin its part; `few`: there are rows.
-fn place(
+// The least state that agrees with q, which does not begin its part; from the state that does, link leads to all below q that begin new parts within it.
+fn walk(
     a: &[u8],
     b: &[u8],
     left: &[u8; Machine::BYTES],
@@ -326,7 +294,6 @@ fn place(
     rows: &[u8; ROWS],
     part: &[u16; STATES],
     link: &[u16; STATES],
-    next: &[u16; STATES],
     q: usize,
 ) -> usize
     requires { ⌜ Sound (now a) × Sound (now b) ⌝ }
@@ -334,14 +301,20 @@ fn place(
     requires { ⌜ (few ≡ true → Rows (now a) (now b) (now left) (now right) count (now rows) (q + 1)) ⌝ }
     requires { ⌜ (q < statesOf (now a) + statesOf (now b)) × First (Alike (now part)) q (getD (now part) q 0) × (getD (now part) q 0 < q) ⌝ }
     requires { ⌜ Chain (Agree ((both (now a) (now b)) .next) (now part)) (now part) (now link) q ⌝ }
-    requires { ⌜ Named (Agree ((both (now a) (now b)) .next) (now part)) (now next) q ⌝ }
     ensures { λ r. ⌜ First (Agree ((both (now (a .entry)) (now (b .entry))) .next) (now (part .entry))) q r ⌝ }
 {
-    if few {
-        walk(a, b, left, right, count, rows, part, link, q)
-    } else {
-        scan(a, b, left, right, count, part, next, q)
+    let h = part[q] as usize;
+    if agree(a, b, left, right, count, few, rows, part, h, q) {
+        return h;
     }
+    let mut p = link[h] as usize;
+    while 0 < p {
+        if agree(a, b, left, right, count, few, rows, part, p, q) {
+            return p;
+        }
+        p = link[p] as usize;
+    }
+    q
 }
 
 // How many signs there are: a state has the one that its number leaves.
@@ -440,6 +413,33 @@ fn note_all(
     }
 }
 
+// Gives the state q, whose part h begins, to the new part that p begins within it; whether that is q itself, born in round r. Then q is the last of the chain of h.
+fn shift(
+    q: usize,
+    h: usize,
+    p: usize,
+    r: u16,
+    link: &mut [u16; STATES],
+    next: &mut [u16; STATES],
+    parent: &mut [u16; STATES],
+    born: &mut [u16; STATES],
+) -> bool
+    requires { ⌜ (q < stateLimit + stateLimit) × (h < stateLimit + stateLimit) × (p < stateLimit + stateLimit) ⌝ }
+    ensures { λ z. ⌜ now (next .exit) ≡ set (now (next .entry)) q p ⌝ }
+    ensures { λ z. ⌜ (z ≡ true → Opening q h p r (now (link .entry)) (now (link .exit)) (now (parent .entry)) (now (parent .exit)) (now (born .entry)) (now (born .exit))) ⌝ }
+    ensures { λ z. ⌜ (z ≡ false → Joining q p (now (link .entry)) (now (link .exit)) (now (parent .entry)) (now (parent .exit)) (now (born .entry)) (now (born .exit))) ⌝ }
+{
+    next[q] = p as u16;
+    if p != q {
+        return false;
+    }
+    link[q] = link[h];
+    link[h] = q as u16;
+    parent[q] = h as u16;
+    born[q] = r;
+    true
+}
+
 // One round, from part to next, which is the same before, with the births of round r; whether it opened a part. `touched` has the signs of the states that a byte leads
 // to one that moved in the last round, and then in this one. A state agrees still with the one that begins its part where neither is touched; so where one that begins
 // a part is, all that come after it are looked at. `link` is 0 before.
@@ -483,15 +483,10 @@ fn round(
         let h = part[q] as usize;
         if h < q {
             if (sign(q) | sign(h)) & *touched != 0 {
-                let p = place(a, b, left, right, count, few, rows, part, link, next, q);
+                let p = walk(a, b, left, right, count, few, rows, part, link, q);
                 if p != h {
-                    next[q] = p as u16;
                     stirred = stirred | from[q];
-                    if p == q {
-                        link[q] = link[h];
-                        link[h] = q as u16;
-                        parent[q] = h as u16;
-                        born[q] = r;
+                    if shift(q, h, p, r, link, next, parent, born) {
                         opened = true;
                     }
                 }
@@ -538,12 +533,11 @@ pub fn refine(
     ensures { λ r. ⌜ Refined (side (now (a .entry)) (now (b .entry)) n) (now (part .exit)) (now (parent .exit)) (now (born .exit)) r ⌝ }
     ensures { λ r. ⌜ (length (now (part .exit)) ≡ stateLimit + stateLimit) × (length (now (parent .exit)) ≡ stateLimit + stateLimit) × (length (now (born .exit)) ≡ stateLimit + stateLimit) ⌝ }
 {
-    begin(a, b, n, part);
     let few = n * count <= ROWS;
     let mut rows = [0u8; ROWS];
     let mut from = [0u64; STATES];
     note_all(a, b, left, right, count, n, few, &mut rows, &mut from);
-    let mut touched: u64 = u64::MAX;
+    let mut touched = begin(a, b, &from, n, part);
     let mut link = [0u16; STATES];
     let mut next = [0u16; STATES];
     adopt(part, &mut next, &mut link, n);

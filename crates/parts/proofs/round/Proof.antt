@@ -9,7 +9,7 @@ use Rattle.parts.specs.Side.{both}
 use Rattle.parts.proofs.Passes.{passed-none, passed-stays, passed-joined, passed-opened, place-still}
 use Rattle.parts.proofs.Rows.{rows-less}
 use Rattle.parts.proofs.Signs.{signs-none, stayed-none, stayed-still, stayed-moved, seen-none, seen-all, seen-past}
-use Rattle.parts.proofs.Gaps.{Come, come-gap}
+use Rattle.parts.proofs.Gaps.{Come, come-as, come-gap}
 use Rattle.parts.proofs.round.Statement.{statement}
 use Rattle.parts.proofs.round.Tie as tie
 
@@ -41,12 +41,12 @@ loop-holds c = let a = c .before .before .before .before .args in
           (record { passed = passed-none _ _ _ _ _ _ _ (d .1 .1 .1 .1 .0) (d .1 .1 .1 .1 .1); stayed = stayed-none (a .part .now) (a .next .now) (a .from .now); watched = seen-none (a .part .now) (a .touched .now) }),
     )
 
-place-requires : tie.Need-place-requires Inv-loop μ-loop
-place-requires c κs =
-    let d = c .before .before .before .before .before .before .before .before .before .before .before .before .before .before .pre in
-    let l = c .before .before .before .before .before .before .before .before .before .loop in
-    let h = c .before .before .before .before .before .before .before .before .loop-test .taken in
-    ((d .0 .left, d .0 .right), (d .1 .0, ((λ e. rows-less (d .1 .1 .0 e) (l .q + 1) (omega (arith, h))), ((omega (arith, h, d .0 .few), d .1 .1 .1 .0 (l .q) h, c .before .before .before .before .before .before .if1 .taken), (l .inv .1 .passed .chain, l .inv .1 .passed .named .named)))))
+walk-requires : tie.Need-walk-requires Inv-loop μ-loop
+walk-requires c κs =
+    let d = c .before .before .before .before .before .before .before .before .before .before .before .before .before .pre in
+    let l = c .before .before .before .before .before .before .before .before .loop in
+    let h = c .before .before .before .before .before .before .before .loop-test .taken in
+    ((d .0 .left, d .0 .right), (d .1 .0, ((λ e. rows-less (d .1 .1 .0 e) (l .q + 1) (omega (arith, h))), ((omega (arith, h, d .0 .few), d .1 .1 .1 .0 (l .q) h, c .before .before .before .before .before .if1 .taken), l .inv .1 .passed .chain))))
 
 mul-h : tie.Need-mul-h Inv-loop μ-loop
 mul-h c = omega (arith, low c)
@@ -57,56 +57,14 @@ element-copy-out-h c = omega (arith, low c)
 cast-h : tie.Need-cast-h Inv-loop μ-loop
 cast-h c = omega (arith, low (c .before))
 
-cast-next : tie.Need-cast-next Inv-loop μ-loop
-cast-next c = omega (arith, c .before .place .ensures .low, low (c .before .before .before .before .before .before .before .before .before .before))
-
-mul-next : tie.Need-mul-next Inv-loop μ-loop
-mul-next c = omega (arith, low (c .before .before .before .before .before .before .before .before .before .before))
-
-element-write-next : tie.Need-element-write-next Inv-loop μ-loop
-element-write-next c = omega (arith, low (c .before .before .before .before .before .before .before .before .before .before))
-
 mul-stirred : tie.Need-mul-stirred Inv-loop μ-loop
-mul-stirred c = omega (arith, low (c .before .before .before .before .before .before .before .before .before .before))
+mul-stirred c = omega (arith, low (c .before .before .before .before .before .before .before .before .before))
 
 element-copy-out-stirred : tie.Need-element-copy-out-stirred Inv-loop μ-loop
-element-copy-out-stirred c = omega (arith, low (c .before .before .before .before .before .before .before .before .before .before))
+element-copy-out-stirred c = omega (arith, low (c .before .before .before .before .before .before .before .before .before))
 
-mul-link : tie.Need-mul-link Inv-loop μ-loop
-mul-link c = omega (arith, low (c .before .before .before .before .before .before .before .before .before .before .before .before))
-
-element-copy-out-link : tie.Need-element-copy-out-link Inv-loop μ-loop
-element-copy-out-link c = omega (arith, low (c .before .before .before .before .before .before .before .before .before .before .before .before))
-
-mul-link-2 : tie.Need-mul-link-2 Inv-loop μ-loop
-mul-link-2 c = omega (arith, low (c .before .before .before .before .before .before .before .before .before .before .before .before .before))
-
-element-write-link : tie.Need-element-write-link Inv-loop μ-loop
-element-write-link c = omega (arith, low (c .before .before .before .before .before .before .before .before .before .before .before .before .before))
-
-cast-link : tie.Need-cast-link Inv-loop μ-loop
-cast-link c = omega (arith, low (c .before .before .before .before .before .before .before .before .before .before .before .before .before))
-
-mul-link-3 : tie.Need-mul-link-3 Inv-loop μ-loop
-mul-link-3 c = omega (arith, low (c .before .before .before .before .before .before .before .before .before .before .before .before .before))
-
-element-write-link-2 : tie.Need-element-write-link-2 Inv-loop μ-loop
-element-write-link-2 c = omega (arith, low (c .before .before .before .before .before .before .before .before .before .before .before .before .before))
-
-cast-parent : tie.Need-cast-parent Inv-loop μ-loop
-cast-parent c = omega (arith, low (c .before .before .before .before .before .before .before .before .before .before .before .before .before))
-
-mul-parent : tie.Need-mul-parent Inv-loop μ-loop
-mul-parent c = omega (arith, low (c .before .before .before .before .before .before .before .before .before .before .before .before .before))
-
-element-write-parent : tie.Need-element-write-parent Inv-loop μ-loop
-element-write-parent c = omega (arith, low (c .before .before .before .before .before .before .before .before .before .before .before .before .before))
-
-mul-born : tie.Need-mul-born Inv-loop μ-loop
-mul-born c = omega (arith, low (c .before .before .before .before .before .before .before .before .before .before .before .before .before))
-
-element-write-born : tie.Need-element-write-born Inv-loop μ-loop
-element-write-born c = omega (arith, low (c .before .before .before .before .before .before .before .before .before .before .before .before .before))
+shift-requires : tie.Need-shift-requires Inv-loop μ-loop
+shift-requires c κs = let z = low (c .before .before .before .before .before .before .before .before .before .before .before .before .before .before) in (z .0, omega (arith, z), omega (arith, z, c .before .before .before .before .before .before .walk .ensures .low))
 
 -- the state q is done
 come : (c : tie.Joined1 Inv-loop μ-loop) → let a = c .before .before .before .before .before .before .before .before .args in let i = c .if1 in
@@ -124,24 +82,29 @@ come c = let a = c .before .before .before .before .before .before .before .befo
     let next = (both (a .a .now) (a .b .now)) .next in
     let still : getD (l .next) (l .q) 0 ≡ getD (a .part .now) (l .q) 0 = p .named .kept (l .q) (omega arith) ∙ same in
     ⊎-elim
-    (λ w. rw (w .12, w .13, w .14, w .15, w .16, w .17, w .18, w .10 .taken)
-    (record { passed = passed-opened _ _ _ _ _ _ _ _ _ _ _ _ (z .0) (g .0) p (rw (w .10 .taken) at (w .7 .ensures)) (w .0 .taken) (f .like) (g .1) (g .2); stayed = stayed-moved (v .stayed) (l .q); watched = seen-past (v .watched) (w .0 .taken) }))
+    (λ w.
+    let n = w .13 .ensures .0 in
+    let o = w .13 .ensures .1 .0 (w .14 .taken) in
+    come-as (w .15 ∙ o .links) (w .16 ∙ rw (o .own) at n) (w .17 ∙ o .parents) (w .18 ∙ o .births) (w .19) (w .20) (w .21)
+    (record { passed = passed-opened _ _ _ _ _ _ _ _ _ _ _ _ (z .0) (g .0) p (rw (o .own) at (w .6 .ensures)) (w .0 .taken) (f .like) (g .1) (g .2); stayed = stayed-moved (v .stayed) (l .q); watched = seen-past (v .watched) (w .0 .taken) }))
     (⊎-elim
-    (λ w. rw (w .11, w .12, w .13, w .14, w .15, w .16, w .17)
-    (record { passed = passed-joined _ _ _ _ _ _ _ _ _ _ _ _ (z .0) (g .0) p (w .7 .result) (w .7 .ensures) (w .10 .left) (z .1); stayed = stayed-moved (v .stayed) (w .7 .result); watched = seen-past (v .watched) (w .0 .taken) }))
+    (λ w.
+    let o = w .13 .ensures .1 .1 (w .14 .left) in
+    come-as (w .15 ∙ o .links) (w .16 ∙ w .13 .ensures .0) (w .17 ∙ o .parents) (w .18 ∙ o .births) (w .19) (w .20) (w .21)
+    (record { passed = passed-joined _ _ _ _ _ _ _ _ _ _ _ _ (z .0) (g .0) p (w .6 .result) (w .6 .ensures) (o .other) (z .1); stayed = stayed-moved (v .stayed) (w .6 .result); watched = seen-past (v .watched) (w .0 .taken) }))
     (⊎-elim
-    (λ w. rw (w .9, w .10, w .11, w .12, w .13, w .14, w .15)
-    (record { passed = passed-stays _ _ _ _ _ _ _ _ _ _ _ _ (z .0) (g .0) p same (rw (w .8 .left) at (w .7 .ensures)); stayed = stayed-still (v .stayed) still; watched = seen-past (v .watched) (w .0 .taken) }))
+    (λ w. come-as (w .8) (w .9) (w .10) (w .11) (w .12) (w .13) (w .14)
+    (record { passed = passed-stays _ _ _ _ _ _ _ _ _ _ _ _ (z .0) (g .0) p same (rw (w .7 .left) at (w .6 .ensures)); stayed = stayed-still (v .stayed) still; watched = seen-past (v .watched) (w .0 .taken) }))
     (⊎-elim
     (λ w.
     let (e, h) = signs-none _ _ _ _ _ (w .1 .ensures) (w .2 .ensures) (w .4 .left) in
-    rw (w .5, w .6, w .7, w .8, w .9, w .10, w .11)
+    come-as (w .5) (w .6) (w .7) (w .8) (w .9) (w .10) (w .11)
     (record {
       passed = passed-stays _ _ _ _ _ _ _ _ _ _ _ _ (z .0) (g .0) p same (place-still next (a .part .now) (l .q) f (λ k. d .1 .1 .0 .agree (getD (a .part .now) (l .q) 0) (l .q) (omega (arith, k, t)) t (f .like) h e));
       stayed = stayed-still (v .stayed) still;
       watched = seen-past (v .watched) (w .0 .taken);
     }))
-    (λ w. rw (w .1, w .2, w .3, w .4, w .5, w .6, w .7)
+    (λ w. come-as (w .1) (w .2) (w .3) (w .4) (w .5) (w .6) (w .7)
     (record {
       passed = passed-stays _ _ _ _ _ _ _ _ _ _ _ _ (z .0) (g .0) p same (place-still next (a .part .now) (l .q) f (λ e. absurd (omega (arith, e, w .0 .left))));
       stayed = stayed-still (v .stayed) still;
@@ -181,24 +144,10 @@ round-spec =
     cast-h
     (λ c κs. search needs)
     (λ c κs. search needs)
-    place-requires
-    cast-next
-    mul-next
-    element-write-next
+    walk-requires
     mul-stirred
     element-copy-out-stirred
-    mul-link
-    element-copy-out-link
-    mul-link-2
-    element-write-link
-    cast-link
-    mul-link-3
-    element-write-link-2
-    cast-parent
-    mul-parent
-    element-write-parent
-    mul-born
-    element-write-born
+    shift-requires
     add-seek
     seek-requires-2
     loop-less
