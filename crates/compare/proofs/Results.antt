@@ -16,7 +16,7 @@ use Rattle.scope.proofs.Run.{sound-closed}
 use Rattle.scope.proofs.Agree.{Agree, agree-same}
 use Rattle.scope.proofs.Aside.{rounds-two}
 use Rattle.scope.proofs.Separate.{equal-by, word-within}
-use Rattle.parts.specs.Side.{both}
+use Rattle.sides.specs.Side.{both}
 use Rattle.parts.specs.Parts.{Alike}
 use Rattle.parts.specs.Refined.{Refined}
 use Rattle.parts.proofs.Refined.{refined-together, both-few}

@@ -23,10 +23,10 @@ use Rattle.scope.specs.Buffers.{TailKept}
 use Rattle.scope.proofs.Tests.{split}
 use Rattle.scope.proofs.Run.{sound-closed}
 use Rattle.scope.proofs.Separate.{Spelled, spelled-more, spelled-separation}
-use Rattle.parts.specs.Side.{both}
-use Rattle.parts.specs.Kinds.{KindsOf}
+use Rattle.sides.specs.Side.{both}
+use Rattle.sides.specs.Kinds.{KindsOf}
 use Rattle.parts.specs.Refined.{Climbs, Climbed}
-use Rattle.parts.proofs.ByKind.{kind-next, kind-before}
+use Rattle.sides.proofs.ByKind.{kind-next, kind-before}
 use Rattle.parts.proofs.Refined.{climbs, climbed-together}
 use Rattle.compare.specs.Word.{Parted, Spells, Holds}
 

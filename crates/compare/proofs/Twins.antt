@@ -18,9 +18,9 @@ use Rattle.scope.proofs.Room.{cell-used}
 use Rattle.scope.proofs.Agree.{Agree, agree-closed, agree-same, agree-rounds}
 use Rattle.scope.proofs.Rounds.{Enough, rounds-enough}
 use Rattle.scope.proofs.Aside.{aside-closed, left-run, right-run}
-use Rattle.parts.specs.Side.{side}
+use Rattle.sides.specs.Side.{side}
 use Rattle.parts.specs.Refined.{Refined}
-use Rattle.parts.proofs.Rooms.{next-left}
+use Rattle.sides.proofs.Rooms.{next-left}
 use Rattle.compare.specs.Twins.{Twins}
 
 -- the same bytes: the same header, classes, marks and used cells

@@ -15,7 +15,7 @@ use Rattle.scope.specs.Rounds.{Together}
 use Rattle.scope.specs.Separate.{Separation}
 use Rattle.scope.specs.Buffers.{Written, Cleared}
 use Rattle.scope.specs.Compare.{CompareLent, Compares}
-use Rattle.parts.specs.Side.{both}
+use Rattle.sides.specs.Side.{both}
 use Rattle.parts.specs.Parts.{Alike}
 use Rattle.parts.specs.Refined.{Refined}
 

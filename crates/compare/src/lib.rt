@@ -17,7 +17,7 @@ ghost use Rattle.scope.specs.Limits.{wordBytes};
 ghost use Rattle.scope.specs.Room.{machine, Sound};
 ghost use Rattle.scope.specs.Rounds.{Rounds};
 ghost use Rattle.slices.specs.Parts.{Decides};
-ghost use Rattle.parts.specs.Kinds.{Kinds};
+ghost use Rattle.sides.specs.Kinds.{Kinds};
 ghost use Rattle.compare.specs.Twins.{Twins};
 ghost use Rattle.compare.specs.Word.{Apart, Between, Spells, Holds, Answers};
 
@@ -92,8 +92,8 @@ fn spell(
                 break 'walk;
             }
             let x = least[i];
-            y = parts::step(left, right, p, x);
-            z = parts::step(left, right, q, x);
+            y = sides::step(left, right, p, x);
+            z = sides::step(left, right, q, x);
             let r = long - (at + 1);
             if parts::climb(part, parent, born, y, r) != parts::climb(part, parent, born, z, r) {
                 break x;
@@ -121,10 +121,10 @@ fn rounds_alone(room: &[u8]) -> usize
     requires { ⌜ Sound (now room) ⌝ }
     ensures { λ r. ⌜ Rounds (machine (now (room .entry))) r ⌝ }
 {
-    let kinds = parts::kinds(room, room, room[1] as usize);
+    let kinds = sides::kinds(room, room, room[1] as usize);
     let least = kinds.least;
     let count = kinds.count;
-    let columns = parts::columns(room, &least, count);
+    let columns = sides::columns(room, &least, count);
     let mut part = [0u16; parts::STATES];
     let mut parent = [0u16; parts::STATES];
     let mut born = [0u16; parts::STATES];
@@ -151,11 +151,11 @@ fn answer(left: &[u8], right: &[u8], word: &mut [u8]) -> Compared
         return Compared::Same(rounds_alone(left));
     }
     let s = left[0] as usize;
-    let kinds = parts::kinds(left, right, Machine::BYTES);
+    let kinds = sides::kinds(left, right, Machine::BYTES);
     let least = kinds.least;
     let count = kinds.count;
-    let left_columns = parts::columns(left, &least, count);
-    let right_columns = parts::columns(right, &least, count);
+    let left_columns = sides::columns(left, &least, count);
+    let right_columns = sides::columns(right, &least, count);
     let mut part = [0u16; parts::STATES];
     let mut parent = [0u16; parts::STATES];
     let mut born = [0u16; parts::STATES];

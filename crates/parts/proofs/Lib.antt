@@ -1,7 +1,6 @@
 -- The laws behind the refinement, each file after what it needs.
 pub mod Names
-pub mod Rooms
-pub mod ByKind
+pub mod Leading
 pub mod Marks
 pub mod Signs
 pub mod Rows

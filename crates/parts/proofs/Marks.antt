@@ -1,5 +1,4 @@
 -- Round 0. Marks are 0 or 1, so there are at most two parts: that of the state 0, and that of the first state with another mark.
---   mark-left, mark-right: a state's mark, in its room
 --   Marked a b p q: p and q have one mark
 --   Begun a b part other q: the states below q are named
 --   begun-none, begun-same, begun-first, begun-other: the state 0, one more with its mark, the first with another, one more with that
@@ -10,42 +9,21 @@ use mathlib.Core.Logic.{inl, inr}
 use mathlib.Core.List.{List}
 use native.Mathlib.Omega.{arith}
 use borrow.Author.Count.{below-more}
-use lib.Dec.{eqb, ltb}
+use lib.Dec.{eqb}
 use lib.Seq.{getD-set-other}
 use lib.ListN.{length, getD, set, replicate, length-set}
-use Rattle.scope.specs.Limits.{marksAt}
-use Rattle.scope.specs.Room.{statesOf, markOf, Sound}
+use Rattle.scope.specs.Room.{statesOf, Sound}
 use Rattle.scope.specs.Rounds.{Together}
-use Rattle.scope.proofs.Tests.{which, split, below, not-below, bit-same}
+use Rattle.scope.proofs.Tests.{split, bit-same}
 use Rattle.scope.proofs.Lists.{zeros}
-use Rattle.parts.specs.Side.{both, markIn, side, Side}
+use Rattle.sides.specs.Side.{markIn, side, Side}
+use Rattle.sides.proofs.Rooms.{accepts-mark, mark-small}
 use Rattle.parts.specs.Parts.{First, Named}
 use Rattle.parts.proofs.Names.{named-none, named-more}
 
 -- two states have one mark
 abbrev pub Marked : List ℕ → List ℕ → ℕ → ℕ → Type 0
 Marked a b p q = markIn a b p ≡ markIn a b q
-
-module _ (a b : List ℕ) (q : ℕ) where
-  -- a state of a has its mark in a
-  pub mark-left : q < statesOf a → markIn a b q ≡ markOf a q
-  unfolding markIn
-  mark-left h = rw (below q (statesOf a) .full h) refl
-
-  -- and one of b in b
-  pub mark-right : statesOf a ≤ q → markIn a b q ≡ markOf b (q - statesOf a)
-  unfolding markIn
-  mark-right h = rw (not-below q (statesOf a) h) refl
-
-  accepts-mark : (both a b) .accepts q ≡ eqb (markIn a b q) 1
-  unfolding markIn
-  accepts-mark = elim (which (ltb q (statesOf a))) [ inl e ↦ rw e refl | inr e ↦ rw e refl ]
-
-  mark-small : Sound a → Sound b → q < statesOf a + statesOf b → markIn a b q < 2
-  mark-small s t h = elim (split q (statesOf a)) [
-    | inl x ↦ omega (arith, mark-left x, s .marks (marksAt + q) (omega arith) (omega arith))
-    | inr x ↦ omega (arith, mark-right x, t .marks (marksAt + (q - statesOf a)) (omega arith) (omega arith))
-  ]
 
 pub record Begun (a b part : List ℕ) (other q : ℕ) : Type 0 where
   pub long : length part ≡ 256

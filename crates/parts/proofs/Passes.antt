@@ -20,7 +20,7 @@ use lib.ListN.{length, getD, set, length-set}
 use Rattle.scope.proofs.Tests.{split}
 use Rattle.slices.specs.Parts.{Decides}
 use Rattle.slices.proofs.Laws.{holds, fails}
-use Rattle.parts.specs.Parts.{First, Named, Renamed, Alike, Agree}
+use Rattle.parts.specs.Parts.{First, Renamed, Alike, Agree}
 use Rattle.parts.specs.Round.{Within, Last, Chain, Opens, Opened, Births}
 use Rattle.parts.proofs.Names.{first-own, renamed-none, renamed-more, agree-itself, agree-flip, agree-chain}
 

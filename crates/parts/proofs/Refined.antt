@@ -16,7 +16,7 @@ use Rattle.scope.specs.Rounds.{Together}
 use Rattle.scope.proofs.Rounds.{together-in, together-flip, together-chain, rests-same}
 use Rattle.scope.proofs.Run.{sound-closed}
 use Rattle.scope.proofs.Aside.{left-run, rounds-two}
-use Rattle.parts.specs.Side.{both, side}
+use Rattle.sides.specs.Side.{both, side}
 use Rattle.parts.specs.Parts.{Named, Alike}
 use Rattle.parts.specs.Refined.{Refined, PartsOf, Climbs, Climbed}
 use Rattle.parts.proofs.Names.{first-one, named-same, named-told, named-name, named-below}

@@ -16,11 +16,11 @@ use lib.ListN.{length, getD, set, length-set}
 use lib.Seq.{getD-set-same, getD-set-other}
 use Rattle.scope.specs.Bits.{has}
 use Rattle.scope.proofs.Room.{flat-in}
-use Rattle.parts.specs.Side.{both, cellIn}
-use Rattle.parts.specs.Kinds.{ColumnsOf}
+use Rattle.sides.specs.Side.{both, cellIn}
+use Rattle.sides.specs.Kinds.{ColumnsOf}
 use Rattle.parts.specs.Rows.{rowBytes, RowCell, Rows}
 use Rattle.parts.specs.Signs.{signs, Sources, Noted}
-use Rattle.parts.proofs.Rooms.{cell-next}
+use Rattle.sides.proofs.Rooms.{cell-next}
 use Rattle.parts.proofs.Signs.{or-left, or-right, sign-own}
 
 module _ {a b left right : List ℕ} {count : ℕ} {rows : List ℕ} {n : ℕ} (d : Rows a b left right count rows n) where

@@ -1,6 +1,4 @@
 -- What the contracts of the refinement cite.
-pub mod Side
-pub mod Kinds
 pub mod Parts
 pub mod Rows
 pub mod Signs

@@ -7,7 +7,7 @@ use mathlib.Core.Path.{_≡_}
 use mathlib.Core.List.{List}
 use lib.ListN.{getD}
 use Rattle.scope.specs.Limits.{stateLimit}
-use Rattle.parts.specs.Side.{cellIn}
+use Rattle.sides.specs.Side.{cellIn}
 
 abbrev pub rowBytes : ℕ
 rowBytes = 2048

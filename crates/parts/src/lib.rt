@@ -11,13 +11,13 @@ ghost use mathlib.Core.Path.{_≡_};
 ghost use mathlib.Core.Bool.{true, false};
 ghost use Prim.Native.Nat.{ℕ, _+_, _*_, _%_, _^_, _≤_, _<_};
 ghost use lib.ListN.{length, getD, set, replicate};
-ghost use Rattle.scope.specs.Limits.{byteValues, stateLimit};
-ghost use Rattle.scope.specs.Room.{statesOf, Below, Sound};
+ghost use Rattle.scope.specs.Limits.{stateLimit};
+ghost use Rattle.scope.specs.Room.{statesOf, Sound};
 ghost use Rattle.scope.specs.Rounds.{Together};
 ghost use Rattle.scope.specs.Buffers.{Written};
 ghost use Rattle.slices.specs.Parts.{Decides};
-ghost use Rattle.parts.specs.Side.{both, cellIn, markIn, side, Side};
-ghost use Rattle.parts.specs.Kinds.{pairOf, stretch, Level, KindAt, Kinds, Most, Column, Used, ColumnsOf};
+ghost use Rattle.sides.specs.Side.{both, side, Side};
+ghost use Rattle.sides.specs.Kinds.{ColumnsOf};
 ghost use Rattle.parts.specs.Parts.{First, Named, Renamed, Alike, Agree};
 ghost use Rattle.parts.specs.Rows.{rowBytes, Rows};
 ghost use Rattle.parts.specs.Signs.{signs, Gap, Sources, Noted, Steady, Stayed};
@@ -27,130 +27,6 @@ ghost use Rattle.parts.specs.Refined.{Refined, Climbs, Climbed};
 // The most states that two rooms have.
 pub const STATES: usize = Machine::STATES + Machine::STATES;
 
-// The state after q on the byte x.
-pub fn step(a: &[u8], b: &[u8], q: usize, x: u8) -> usize
-    requires { ⌜ Sound (now a) × Sound (now b) ⌝ }
-    requires { ⌜ q < statesOf (now a) + statesOf (now b) ⌝ }
-    ensures { λ r. ⌜ (r ≡ (both (now (a .entry)) (now (b .entry))) .next q x) × (r < statesOf (now (a .entry)) + statesOf (now (b .entry))) ⌝ }
-{
-    let s = a[0] as usize;
-    if q < s {
-        room::step(a, q, x)
-    } else {
-        s + room::step(b, q - s, x)
-    }
-}
-
-// The kinds of the bytes by two rooms: the least byte of each.
-pub struct ByteKinds {
-    pub least: [u8; Machine::BYTES],
-    pub count: usize,
-}
-
-// The classes of the byte x in a and in b, as one number.
-fn pair(a: &[u8], b: &[u8], x: usize) -> usize
-    requires { ⌜ Sound (now a) × Sound (now b) ⌝ }
-    requires { ⌜ x < byteValues ⌝ }
-    ensures { λ r. ⌜ r ≡ pairOf (now (a .entry)) (now (b .entry)) x ⌝ }
-{
-    a[Machine::CLASSES_AT + x] as usize * Machine::CLASSES + b[Machine::CLASSES_AT + x] as usize
-}
-
-// The kind whose least byte has the pair of classes p, or their count if none has.
-fn find(a: &[u8], b: &[u8], least: &[u8; Machine::BYTES], count: usize, p: usize) -> usize
-    requires { ⌜ Sound (now a) × Sound (now b) ⌝ }
-    requires { ⌜ (count ≤ byteValues) × Below (now least) 0 count byteValues ⌝ }
-    ensures { λ r. ⌜ KindAt (now (a .entry)) (now (b .entry)) (now (least .entry)) count p r ⌝ }
-{
-    let mut i: usize = 0;
-    while i < count {
-        if pair(a, b, least[i] as usize) == p {
-            return i;
-        }
-        i += 1;
-    }
-    count
-}
-
-// How many bytes are passed over at once where their classes do not change.
-const STRETCH: usize = 16;
-
-// Whether each byte of the stretch from x on has the class of the byte before it.
-fn is_level(room: &[u8], x: usize) -> bool
-    requires { ⌜ Sound (now room) × (0 < x) × (x + stretch ≤ byteValues) ⌝ }
-    ensures { λ r. ⌜ Decides r (Level (now (room .entry)) x (x + stretch)) ⌝ }
-{
-    let mut level = true;
-    let mut y = x;
-    while y < x + STRETCH {
-        if room[Machine::CLASSES_AT + y] != room[Machine::CLASSES_AT - 1 + y] {
-            level = false;
-        }
-        y += 1;
-    }
-    level
-}
-
-// The kinds of the bytes, of which there are at most `most`: of one kind are those with one class in a and one in b. Most stretches of bytes are level.
-pub fn kinds(a: &[u8], b: &[u8], most: usize) -> ByteKinds
-    requires { ⌜ Sound (now a) × Sound (now b) ⌝ }
-    requires { ⌜ Most (now a) (now b) most ⌝ }
-    ensures { λ r. ⌜ Kinds (now (a .entry)) (now (b .entry)) (r .least) (r .count) ⌝ }
-{
-    let mut least = [0u8; Machine::BYTES];
-    let mut count: usize = 1;
-    let mut last = pair(a, b, 0);
-    let mut x: usize = 1;
-    while x < Machine::BYTES && count < most {
-        if x % STRETCH == 0 && is_level(a, x) && is_level(b, x) {
-            x += STRETCH;
-        } else {
-            let p = pair(a, b, x);
-            if p != last {
-                if find(a, b, &least, count, p) == count {
-                    least[count] = x as u8;
-                    count += 1;
-                }
-                last = p;
-            }
-            x += 1;
-        }
-    }
-    ByteKinds {
-        least: least,
-        count: count,
-    }
-}
-
-// The column of each kind: the class of its least byte.
-pub fn columns(room: &[u8], least: &[u8; Machine::BYTES], count: usize) -> [u8; Machine::BYTES]
-    requires { ⌜ Sound (now room) ⌝ }
-    requires { ⌜ (count ≤ byteValues) × Below (now least) 0 count byteValues ⌝ }
-    ensures { λ r. ⌜ Column (now (room .entry)) (now (least .entry)) r count ⌝ }
-{
-    let mut column = [0u8; Machine::BYTES];
-    let mut j: usize = 0;
-    while j < count {
-        column[j] = room[Machine::CLASSES_AT + least[j] as usize];
-        j += 1;
-    }
-    column
-}
-
-// The mark of the state q.
-fn mark(a: &[u8], b: &[u8], q: usize) -> u8
-    requires { ⌜ Sound (now a) × Sound (now b) ⌝ }
-    requires { ⌜ q < statesOf (now a) + statesOf (now b) ⌝ }
-    ensures { λ r. ⌜ r ≡ markIn (now (a .entry)) (now (b .entry)) q ⌝ }
-{
-    let s = a[0] as usize;
-    if q < s {
-        a[Machine::MARKS_AT + q]
-    } else {
-        b[Machine::MARKS_AT + (q - s)]
-    }
-}
-
 // Round 0: the parts by mark, where all are 0; the signs of the states that a byte leads to one that is not of the first part.
 fn begin(a: &[u8], b: &[u8], from: &[u64; STATES], n: usize, part: &mut [u16; STATES]) -> u64
     requires { ⌜ Side (now a) (now b) n ⌝ }
@@ -159,12 +35,12 @@ fn begin(a: &[u8], b: &[u8], from: &[u64; STATES], n: usize, part: &mut [u16; ST
     ensures { λ _. ⌜ (length (now (part .exit)) ≡ stateLimit + stateLimit) × Named (Together (side (now (a .entry)) (now (b .entry)) n) 0) (now (part .exit)) n ⌝ }
     ensures { λ r. ⌜ Steady ((both (now (a .entry)) (now (b .entry))) .next) (now (part .exit)) n r ⌝ }
 {
-    let m = mark(a, b, 0);
+    let m = sides::mark(a, b, 0);
     let mut touched: u64 = 0;
     let mut other: usize = 0;
     let mut q: usize = 0;
     while q < n {
-        if mark(a, b, q) != m {
+        if sides::mark(a, b, q) != m {
             if other == 0 {
                 other = q;
             }
@@ -174,27 +50,6 @@ fn begin(a: &[u8], b: &[u8], from: &[u64; STATES], n: usize, part: &mut [u16; ST
         q += 1;
     }
     touched
-}
-
-// The state after q on the bytes of the kind i.
-fn cell(
-    a: &[u8],
-    b: &[u8],
-    left: &[u8; Machine::BYTES],
-    right: &[u8; Machine::BYTES],
-    q: usize,
-    i: usize,
-) -> usize
-    requires { ⌜ Sound (now a) × Sound (now b) ⌝ }
-    requires { ⌜ (q < statesOf (now a) + statesOf (now b)) × (i < byteValues) × Used (now a) (now b) (now left) (now right) i ⌝ }
-    ensures { λ r. ⌜ (r ≡ cellIn (now (a .entry)) (now (b .entry)) q (getD (now (left .entry)) i 0) (getD (now (right .entry)) i 0)) × (r < statesOf (now (a .entry)) + statesOf (now (b .entry))) ⌝ }
-{
-    let s = a[0] as usize;
-    if q < s {
-        a[Machine::CELLS_AT + (q * a[1] as usize + left[i] as usize)] as usize
-    } else {
-        s + b[Machine::CELLS_AT + ((q - s) * b[1] as usize + right[i] as usize)] as usize
-    }
 }
 
 // Whether each byte leads p and q, which lie in one part, into one part, by the cells of the rooms.
@@ -215,8 +70,8 @@ fn agree_cells(
 {
     let mut i: usize = 0;
     while i < count {
-        let y = cell(a, b, left, right, p, i);
-        let z = cell(a, b, left, right, q, i);
+        let y = sides::cell(a, b, left, right, p, i);
+        let z = sides::cell(a, b, left, right, q, i);
         if part[y] != part[z] {
             return false;
         }
@@ -376,7 +231,7 @@ fn note(
     let mut last = STATES;
     let mut i: usize = 0;
     while i < count {
-        let y = cell(a, b, left, right, q, i);
+        let y = sides::cell(a, b, left, right, q, i);
         if few {
             rows[x + i] = y as u8;
         }

@@ -8,7 +8,7 @@ use native.Mathlib.Omega.{arith}
 use lib.ListN.{getD}
 use Rattle.scope.specs.Limits.{byteValues}
 use Rattle.scope.specs.Room.{classOf}
-use Rattle.parts.specs.Kinds.{KindsOf, Column}
+use Rattle.sides.specs.Kinds.{KindsOf, Column}
 use Rattle.smallest.specs.Classes.{Distinct}
 
 module _ {a kind least column : List ℕ} {kinds : ℕ} (k : KindsOf a a kind least kinds) (c : Column a least column kinds) where

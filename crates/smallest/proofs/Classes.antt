@@ -16,8 +16,8 @@ use Rattle.scope.specs.Room.{classesOf, classOf, Below, Sound}
 use Rattle.scope.specs.Buffers.{Written}
 use Rattle.scope.proofs.Tests.{split, level}
 use Rattle.scope.proofs.Hole.{pigeon}
-use Rattle.parts.specs.Kinds.{KindsOf, Column}
-use Rattle.parts.proofs.ByKind.{kind-before}
+use Rattle.sides.specs.Kinds.{KindsOf, Column}
+use Rattle.sides.proofs.ByKind.{kind-before}
 use Rattle.smallest.specs.Classes.{Alike, Distinct, Found, Led, Merged, Mapped, Classed}
 use Rattle.smallest.specs.Image.{SameOrder}
 use Rattle.smallest.proofs.Arrival.{First, arrival-came}

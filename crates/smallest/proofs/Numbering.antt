@@ -13,9 +13,9 @@ use Rattle.scope.specs.Room.{statesOf, nextOf, machine, Sound}
 use Rattle.scope.specs.Canonical.{entry}
 use Rattle.scope.proofs.Tests.{split}
 use Rattle.scope.proofs.Run.{run-append, bytes-append, sound-closed}
-use Rattle.parts.specs.Kinds.{KindsOf, Column}
+use Rattle.sides.specs.Kinds.{KindsOf, Column}
 use Rattle.parts.specs.Refined.{PartsOf}
-use Rattle.parts.proofs.ByKind.{kind-before}
+use Rattle.sides.proofs.ByKind.{kind-before}
 use Rattle.smallest.specs.Numbering.{leads, Forth, Came, Swept, Numbers, smaller, Smallest}
 use Rattle.smallest.proofs.Arrival.{First, arrival-came}
 use Rattle.smallest.proofs.ByKind.{kind-column}

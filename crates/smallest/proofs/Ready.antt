@@ -7,8 +7,8 @@ use native.Mathlib.Omega.{arith}
 use lib.ListN.{getD}
 use Rattle.scope.specs.Limits.{classesAt}
 use Rattle.scope.specs.Room.{statesOf, Sound}
-use Rattle.parts.specs.Kinds.{KindsOf, Column}
-use Rattle.parts.specs.Side.{side}
+use Rattle.sides.specs.Kinds.{KindsOf, Column}
+use Rattle.sides.specs.Side.{side}
 use Rattle.parts.specs.Refined.{Refined}
 use Rattle.parts.proofs.Refined.{left-parts}
 use Rattle.smallest.specs.Numbering.{Ready, Numbered, Rows}

@@ -34,10 +34,10 @@ fn make_plan(from: &[u8]) -> Plan
     requires { ⌜ Sound (now from) ⌝ }
     ensures { λ r. ⌜ Planned (now (from .entry)) r ⌝ }
 {
-    let bytes = parts::kinds(from, from, from[1] as usize);
+    let bytes = sides::kinds(from, from, from[1] as usize);
     let least = bytes.least;
     let kinds = bytes.count;
-    let column = parts::columns(from, &least, kinds);
+    let column = sides::columns(from, &least, kinds);
     let mut part = [0u16; parts::STATES];
     let mut parent = [0u16; parts::STATES];
     let mut born = [0u16; parts::STATES];

@@ -1,8 +1,8 @@
 -- The states of one room, refined alone.
 use mathlib.Core.Path.{refl}
 use borrow.Author.Needs.{needs}
-use Rattle.parts.proofs.ByKind.{most-classes, columns-of, least-bytes}
-use Rattle.parts.proofs.Rooms.{side-left}
+use Rattle.sides.proofs.ByKind.{most-classes, columns-of, least-bytes}
+use Rattle.sides.proofs.Rooms.{side-left}
 use Rattle.compare.proofs.Twins.{rounds-alone}
 use Rattle.compare.proofs.rounds_alone.Statement.{statement}
 use Rattle.compare.proofs.rounds_alone.Tie as tie

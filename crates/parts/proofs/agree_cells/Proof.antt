@@ -4,7 +4,7 @@ use mathlib.Core.Path.{_≡_}
 use native.Mathlib.Omega.{arith}
 use borrow.Author.Needs.{needs}
 use Rattle.slices.proofs.Laws.{holds, fails}
-use Rattle.parts.proofs.ByKind.{Led, led-more, led-all, led-apart}
+use Rattle.parts.proofs.Leading.{Led, led-more, led-all, led-apart}
 use Rattle.parts.proofs.agree_cells.Statement.{statement}
 use Rattle.parts.proofs.agree_cells.Tie as tie
 

@@ -6,7 +6,7 @@ use native.Mathlib.Omega.{arith}
 use borrow.Author.Needs.{needs}
 use Rattle.slices.proofs.Laws.{holds, fails}
 use Rattle.parts.specs.Rows.{rowBytes, RowCell}
-use Rattle.parts.proofs.ByKind.{Led, led-more, led-all, led-apart}
+use Rattle.parts.proofs.Leading.{Led, led-more, led-all, led-apart}
 use Rattle.parts.proofs.Rows.{row-in}
 use Rattle.parts.proofs.agree_rows.Statement.{statement}
 use Rattle.parts.proofs.agree_rows.Tie as tie

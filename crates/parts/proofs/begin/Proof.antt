@@ -6,7 +6,7 @@ use native.Mathlib.Omega.{arith}
 use borrow.Author.Needs.{needs}
 use lib.ListN.{replicate}
 use Rattle.scope.proofs.Lists.{zeros}
-use Rattle.parts.specs.Side.{side}
+use Rattle.sides.specs.Side.{side}
 use Rattle.parts.specs.Signs.{Stayed}
 use Rattle.parts.proofs.Marks.{Begun, begun-none, begun-same, begun-first, begun-other, begun-all}
 use Rattle.parts.proofs.Signs.{steady-first, stayed-none, stayed-still, stayed-moved}

@@ -6,7 +6,7 @@ use native.Mathlib.Nat.{zero-mul, mul-le-mul-right}
 use native.Mathlib.Omega.{arith}
 use borrow.Author.Needs.{needs}
 use lib.ListN.{length}
-use Rattle.parts.specs.Side.{both}
+use Rattle.sides.specs.Side.{both}
 use Rattle.parts.specs.Rows.{rowBytes, Rows}
 use Rattle.parts.specs.Signs.{Sources}
 use Rattle.parts.proofs.Rows.{sources-more}

@@ -5,13 +5,12 @@ use mathlib.Core.Logic.{inl, inr}
 use mathlib.Core.List.{List}
 use native.Mathlib.Nat.{mul-le-mul}
 use native.Mathlib.Omega.{arith}
-use borrow.Author.Needs.{needs}
 use borrow.Author.Tests.{leb-true}
 use lib.ListN.{length, getD}
 use Rattle.scope.specs.Buffers.{Written}
 use Rattle.scope.proofs.Tests.{split}
 use Rattle.scope.proofs.Lists.{zeros}
-use Rattle.parts.specs.Side.{both, side}
+use Rattle.sides.specs.Side.{both, side}
 use Rattle.parts.specs.Signs.{Steady}
 use Rattle.parts.proofs.Signs.{steady-next}
 use Rattle.parts.proofs.Turns.{After, after-none, after-copied, after-more, after-few, after-own, after-done}

@@ -5,7 +5,7 @@ use Prim.Native.Nat.{_+_, _-_, _≤_, _<_}
 use native.Mathlib.Omega.{arith}
 use borrow.Author.Needs.{needs}
 use lib.ListN.{getD}
-use Rattle.parts.specs.Side.{both}
+use Rattle.sides.specs.Side.{both}
 use Rattle.parts.proofs.Passes.{passed-none, passed-stays, passed-joined, passed-opened, place-still}
 use Rattle.parts.proofs.Rows.{rows-less}
 use Rattle.parts.proofs.Signs.{signs-none, stayed-none, stayed-still, stayed-moved, seen-none, seen-all, seen-past}

@@ -1,7 +1,6 @@
 -- Where p is another state nothing but its name is written; where it is q, the chain, the parent and the round are.
 use mathlib.Core.Path.{refl, sym}
 use mathlib.Core.Bool.{true≢false}
-use native.Mathlib.Omega.{arith}
 use borrow.Author.Needs.{needs}
 use Rattle.parts.proofs.shift.Statement.{statement}
 use Rattle.parts.proofs.shift.Tie as tie

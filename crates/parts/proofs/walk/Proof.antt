@@ -1,7 +1,7 @@
 -- The state that begins the old part does not agree with q, nor does any of the chain that was passed; p is the next to be compared, and the chain falls.
 use native.Mathlib.Omega.{arith}
 use lib.ListN.{getD}
-use Rattle.parts.specs.Side.{both}
+use Rattle.sides.specs.Side.{both}
 use Rattle.parts.specs.Parts.{Agree}
 use Rattle.parts.specs.Round.{Within}
 use Rattle.parts.proofs.Passes.{Tried, chain-low, tried-first, tried-less, tried-more, place-head, place-found, place-none}

@@ -1,8 +1,8 @@
 -- Each pass ensures what the next requires; together they are the plan.
 use mathlib.Core.Path.{refl}
 use native.Mathlib.Omega.{arith}
-use Rattle.parts.proofs.ByKind.{most-classes, columns-of, least-bytes}
-use Rattle.parts.proofs.Rooms.{side-left}
+use Rattle.sides.proofs.ByKind.{most-classes, columns-of, least-bytes}
+use Rattle.sides.proofs.Rooms.{side-left}
 use Rattle.smallest.proofs.ByKind.{distinct}
 use Rattle.smallest.proofs.Ready.{ready, rows, planned}
 use Rattle.smallest.proofs.make_plan.Statement.{statement}

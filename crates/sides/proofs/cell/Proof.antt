@@ -4,10 +4,10 @@ use mathlib.Core.Path.{sym}
 use native.Mathlib.Omega.{arith}
 use borrow.Author.Needs.{needs}
 use lib.ListN.{getD}
-use Rattle.parts.proofs.Rooms.{cell-left, cell-right}
-use Rattle.parts.proofs.ByKind.{Cell, left-cell, right-cell}
-use Rattle.parts.proofs.cell.Statement.{statement}
-use Rattle.parts.proofs.cell.Tie as tie
+use Rattle.sides.proofs.Rooms.{cell-left, cell-right}
+use Rattle.sides.proofs.ByKind.{Cell, left-cell, right-cell}
+use Rattle.sides.proofs.cell.Statement.{statement}
+use Rattle.sides.proofs.cell.Tie as tie
 
 -- the cell in a
 left : (c : tie.Then1) → let s = c .before .before .args in Cell (s .a .now) (s .q) (getD (s .left .now) (s .i) 0)

@@ -7,8 +7,8 @@ use lib.ListN.{getD}
 use Rattle.scope.specs.Room.{classOf}
 use Rattle.slices.specs.Parts.{Stored}
 use Rattle.slices.proofs.Laws.{stored-none, stored-more, stored-written}
-use Rattle.parts.proofs.columns.Statement.{statement}
-use Rattle.parts.proofs.columns.Tie as tie
+use Rattle.sides.proofs.columns.Statement.{statement}
+use Rattle.sides.proofs.columns.Tie as tie
 
 abbrev Inv-loop : tie.InvT-loop
 Inv-loop room least count column₀ j₀ column j = (j ≤ count) × Stored column₀ column 0 j (λ i. classOf room (getD least i 0))

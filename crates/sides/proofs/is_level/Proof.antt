@@ -6,10 +6,10 @@ use native.Mathlib.Omega.{arith}
 use borrow.Author.Needs.{needs}
 use lib.ListN.{getD}
 use Rattle.slices.specs.Parts.{Decides}
-use Rattle.parts.specs.Kinds.{stretch, Level}
-use Rattle.parts.proofs.ByKind.{level-none, level-more, level-not}
-use Rattle.parts.proofs.is_level.Statement.{statement}
-use Rattle.parts.proofs.is_level.Tie as tie
+use Rattle.sides.specs.Kinds.{stretch, Level}
+use Rattle.sides.proofs.ByKind.{level-none, level-more, level-not}
+use Rattle.sides.proofs.is_level.Statement.{statement}
+use Rattle.sides.proofs.is_level.Tie as tie
 
 abbrev Inv-loop : tie.InvT-loop
 Inv-loop room x level₀ y₀ level y = (x ≤ y) × (y ≤ x + stretch) × Decides level (Level room x y)

@@ -1,5 +1,4 @@
--- Kinds of bytes, found in one pass: a byte is of a new kind exactly if no least byte of a kind so far has its classes. What holds for the classes of each kind
--- holds for every byte.
+-- Kinds of bytes, found in one pass: a byte is of a new kind exactly if no least byte of a kind so far has its classes.
 --   class-small, pair-one: classes are below 64, so a pair of them is one number
 --   kinds-first, kinds-old, kinds-new: the kinds of the byte 0; a byte more is of the kind of one before it, or of a new one
 --   level-none, level-more, level-not: a stretch of bytes with the class of the byte before, so far
@@ -7,7 +6,6 @@
 --   most-bytes, most-classes: there are at most 256 kinds; for one room at most as many as classes
 --   columns-of, least-bytes: the classes of the least bytes are the columns; these are bytes
 --   Cell m q c, left-cell, right-cell: the cell of a state and a kind lies in the room, and is a state
---   Led, led-more, led-all, led-apart: two states agree exactly if each kind leads them into one part
 --   kind-next, kind-before: a byte leads where the least byte of its kind does; a byte below it is of a smaller kind
 use Prim.Native.Nat.{ℕ, zero, suc, _+_, _-_, _*_, _≤_, _<_}
 use mathlib.Core.Path.{_≡_, refl, sym, _∙_}
@@ -27,10 +25,8 @@ use Rattle.scope.proofs.Hole.{pigeon}
 use Rattle.scope.proofs.Lists.{zeros}
 use Rattle.slices.specs.Parts.{Decides}
 use Rattle.slices.proofs.Laws.{holds, fails}
-use Rattle.parts.specs.Side.{both, cellIn}
-use Rattle.parts.specs.Kinds.{pairOf, stretch, Level, KindAt, KindsTo, KindsOf, Kinds, Most, Column, Used, ColumnsOf}
-use Rattle.parts.specs.Parts.{Alike, Agree}
-use Rattle.parts.proofs.Rooms.{cell-next}
+use Rattle.sides.specs.Side.{both}
+use Rattle.sides.specs.Kinds.{pairOf, stretch, Level, KindAt, KindsTo, KindsOf, Kinds, Most, Column, Used, ColumnsOf}
 
 -- a byte's class is below 64
 pub class-small : (m : List ℕ) (x : ℕ) → Sound m → x < byteValues → classOf m x < classLimit
@@ -292,35 +288,6 @@ module _ (a b left right : List ℕ) (q i : ℕ) (u : Used a b left right i) whe
   -- and for a state of b
   pub right-cell : Sound b → q < statesOf b → Cell b q (getD right i 0)
   right-cell t h = cell-state b q (getD right i 0) (u .byte) t h (u .has .is-byte) (u .has .right)
-
--- ---- two states
-
--- the first e kinds lead p and q into one part
-abbrev pub Led : List ℕ → List ℕ → List ℕ → List ℕ → List ℕ → ℕ → ℕ → ℕ → Type 0
-Led a b left right part p q e =
-    (i : ℕ) → i < e → Alike part (cellIn a b p (getD left i 0) (getD right i 0)) (cellIn a b q (getD left i 0) (getD right i 0))
-
-module _ (a b left right part : List ℕ) (count p q : ℕ) where
-  -- what each kind leads into one part, every byte does
-  pub led-all : ColumnsOf a b left right count → Alike part p q → Led a b left right part p q count → Agree ((both a b) .next) part p q
-  led-all u e f = record {
-    here = e;
-    there = λ x h.
-        let (i, l, y) = u .all x h in
-        rw (← cell-next a b p (getD left i 0) (getD right i 0) x y, ← cell-next a b q (getD left i 0) (getD right i 0) x y) (f i l);
-  }
-
-  module _ (i y z : ℕ) (e : y ≡ cellIn a b p (getD left i 0) (getD right i 0)) (f : z ≡ cellIn a b q (getD left i 0) (getD right i 0)) where
-    -- one more kind does
-    pub led-more : Led a b left right part p q i → Alike part y z → Led a b left right part p q (i + 1)
-    led-more d h = below-more (λ (i : ℕ). Alike part (cellIn a b p (getD left i 0) (getD right i 0)) (cellIn a b q (getD left i 0) (getD right i 0))) i d (rw (← e, ← f) h)
-
-    -- one does not: p and q do not agree
-    pub led-apart : ColumnsOf a b left right count → i < count → (Alike part y z → ⊥) → Agree ((both a b) .next) part p q → ⊥
-    led-apart u l n g =
-        let x = u .used i l .byte in
-        let w = u .used i l .has in
-        n (rw (e, f, cell-next a b p (getD left i 0) (getD right i 0) x w, cell-next a b q (getD left i 0) (getD right i 0) x w) (g .there x (w .is-byte)))
 
 -- ---- for whoever goes over the least bytes
 

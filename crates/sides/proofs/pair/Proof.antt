@@ -2,9 +2,9 @@
 use Prim.Native.Nat.{_+_}
 use native.Mathlib.Omega.{arith}
 use borrow.Author.Needs.{needs}
-use Rattle.parts.proofs.ByKind.{class-small}
-use Rattle.parts.proofs.pair.Statement.{statement}
-use Rattle.parts.proofs.pair.Tie as tie
+use Rattle.sides.proofs.ByKind.{class-small}
+use Rattle.sides.proofs.pair.Statement.{statement}
+use Rattle.sides.proofs.pair.Tie as tie
 
 add-result : tie.Need-add-result
 add-result c = search needs

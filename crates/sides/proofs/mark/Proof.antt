@@ -1,9 +1,9 @@
 -- A state of a has its mark in a, one of b in b.
 use borrow.Author.Needs.{needs}
 use mathlib.Core.Path.{sym}
-use Rattle.parts.proofs.Marks.{mark-left, mark-right}
-use Rattle.parts.proofs.mark.Statement.{statement}
-use Rattle.parts.proofs.mark.Tie as tie
+use Rattle.sides.proofs.Rooms.{mark-left, mark-right}
+use Rattle.sides.proofs.mark.Statement.{statement}
+use Rattle.sides.proofs.mark.Tie as tie
 
 shared-slice-read-s : tie.Need-shared-slice-read-s
 shared-slice-read-s c = search needs

@@ -4,9 +4,9 @@ use Prim.Native.Nat.{_+_, _≤_, _<_, _-_}
 use native.Mathlib.Omega.{arith}
 use borrow.Author.Needs.{needs}
 use borrow.Author.Tests.{ltb-false}
-use Rattle.parts.proofs.ByKind.{Passed, passed-first, passed-same, passed-level, passed-old, passed-new, passed-full, passed-all}
-use Rattle.parts.proofs.kinds.Statement.{statement}
-use Rattle.parts.proofs.kinds.Tie as tie
+use Rattle.sides.proofs.ByKind.{Passed, passed-first, passed-same, passed-level, passed-old, passed-new, passed-full, passed-all}
+use Rattle.sides.proofs.kinds.Statement.{statement}
+use Rattle.sides.proofs.kinds.Tie as tie
 
 abbrev Inv-loop : tie.InvT-loop
 Inv-loop a b most least₀ count₀ last₀ x₀ least count last x = (0 < x) × (x ≤ 256) × Passed a b least count last x

@@ -5,9 +5,9 @@ use native.Mathlib.Omega.{arith}
 use borrow.Author.Needs.{needs}
 use borrow.Author.Count.{below-more}
 use lib.ListN.{getD}
-use Rattle.parts.specs.Kinds.{pairOf}
-use Rattle.parts.proofs.find.Statement.{statement}
-use Rattle.parts.proofs.find.Tie as tie
+use Rattle.sides.specs.Kinds.{pairOf}
+use Rattle.sides.proofs.find.Statement.{statement}
+use Rattle.sides.proofs.find.Tie as tie
 
 abbrev Inv-loop : tie.InvT-loop
 Inv-loop a b least count p i₀ i = (i ≤ count) × ((j : ℕ) → j < i → pairOf a b (getD least j 0) ≡ p → ⊥)

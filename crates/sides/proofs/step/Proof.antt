@@ -1,9 +1,9 @@
 -- A state of a moves as in a, one of b as in b.
 use native.Mathlib.Omega.{arith}
 use borrow.Author.Needs.{needs}
-use Rattle.parts.proofs.Rooms.{next-left, next-right}
-use Rattle.parts.proofs.step.Statement.{statement}
-use Rattle.parts.proofs.step.Tie as tie
+use Rattle.sides.proofs.Rooms.{next-left, next-right}
+use Rattle.sides.proofs.step.Statement.{statement}
+use Rattle.sides.proofs.step.Tie as tie
 
 shared-slice-read-s : tie.Need-shared-slice-read-s
 shared-slice-read-s c = search needs

@@ -1,0 +1,3 @@
+-- What the contracts over two rooms cite.
+pub mod Side
+pub mod Kinds
