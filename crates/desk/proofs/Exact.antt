@@ -13,12 +13,14 @@ use lib.ListN.{length, getD, List·getD-eq-default}
 use Rattle.scope.specs.Bytes.{Bytes}
 use Rattle.scope.specs.Limits.{byteValues}
 use Rattle.scope.proofs.Tests.{split, below, not-below}
+use Rattle.forms.specs.Form.{fieldLimit, textLimit, formBytes, countOf, closedOf, lengthOf, byteOf, textOf}
+use Rattle.forms.specs.Test.{Plain, Empty, Valid}
+use Rattle.forms.proofs.Texts.{text-length, text-byte, text-bytes}
 use Rattle.desk.specs.Entry.{Entry}
-use Rattle.desk.specs.Form.{fieldLimit, textLimit, formBytes, countOf, closedOf, lengthOf, byteOf, textOf, Shows}
+use Rattle.desk.specs.Show.{Shows}
 use Rattle.desk.specs.Press.{CanGive}
-use Rattle.desk.specs.Test.{Plain, Empty, Valid}
 use Rattle.desk.proofs.Good.{Good, Literals, gives-good, good-gives}
-use Rattle.desk.proofs.Shown.{text-length, text-byte, text-bytes, text-shown}
+use Rattle.desk.proofs.Shown.{text-shown}
 
 -- ---- what can be given passes
 

@@ -21,12 +21,13 @@ use Rattle.scope.specs.Bytes.{Bytes}
 use Rattle.scope.specs.Limits.{byteValues}
 use Rattle.scope.proofs.Tests.{split, equals}
 use Rattle.scope.proofs.Run.{bytes-append}
-use Rattle.desk.specs.Entry.{Entry, nothing, openText, BACK, CLOSE, Literal, retyped}
-use Rattle.desk.specs.Form.{textLimit}
-use Rattle.desk.specs.Key.{roomOf, IsAccepted, IsDead, after, Gives, opened, pressed}
+use Rattle.forms.specs.Text.{BACK, CLOSE, Literal, roomOf, IsAccepted, IsDead}
+use Rattle.forms.specs.Form.{textLimit}
+use Rattle.forms.specs.Test.{Kept}
+use Rattle.forms.proofs.Dead.{prefix-kept, accepted-kept}
+use Rattle.desk.specs.Entry.{Entry, nothing, openText, retyped}
+use Rattle.desk.specs.Key.{after, Gives, opened, pressed}
 use Rattle.desk.specs.Key.{Judges, all-closed, taken-back, field-closed, not-finished, too-long, dead-byte, byte-taken}
-use Rattle.desk.specs.Test.{Kept}
-use Rattle.desk.proofs.Dead.{prefix-kept, accepted-kept}
 
 -- no byte of a text is a key
 abbrev pub Literals : List ℕ → Type 0

@@ -16,11 +16,13 @@ use Rattle.scope.specs.Buffers.{TailKept}
 use Rattle.scope.specs.Bytes.{Bytes}
 use Rattle.scope.specs.Limits.{byteValues}
 use Rattle.scope.specs.Machine.{walk}
-use Rattle.desk.specs.Entry.{Entry, nothing, openText, BACK, CLOSE, retyped, typed, history}
-use Rattle.desk.specs.Form.{fieldLimit, textLimit, formBytes, countOf, closedOf, textOf, Shows}
+use Rattle.forms.specs.Text.{BACK, CLOSE}
+use Rattle.forms.specs.Form.{fieldLimit, textLimit, formBytes, countOf, closedOf, textOf, DeskLent}
+use Rattle.desk.specs.Entry.{Entry, nothing, openText, retyped, typed, history}
+use Rattle.desk.specs.Show.{Shows}
 use Rattle.desk.specs.Key.{Judges, all-closed, taken-back, field-closed, not-finished, too-long, dead-byte, byte-taken, after}
 use Rattle.desk.specs.Key as key
-use Rattle.desk.specs.Open.{DeskLent, Opens, opened}
+use Rattle.desk.specs.Open.{Opens, opened}
 use Rattle.desk.specs.Press.{Ready, Presses, no-room, no-form, answered}
 use Rattle.desk.specs.History.{KeysPressed, none, accepted, refused}
 use Rattle.desk.proofs.Good.{either}

@@ -3,9 +3,7 @@
 --   presses-size: a key leaves a form as long as it was
 --   refused, refused-filled, refused-empty, presses-unplain, presses-lost: the form is none that keys can give
 --   presses-all: all fields are closed
---   inside: the open field is one of the form's
 --   presses-back, presses-long: the answers to 0x08, and to a byte too many
---   text-held, text-lost: whether the field is one that keys lead to
 --   closes, closes-unfinished, closes-dead, closes-lost: the answers to 0x0D, by how the field stands
 --   types-accepted, types-unfinished, types-dead, types-lost: the answers to a byte, by how the field stands with it
 use Prim.Native.Nat.{ℕ, _+_, _*_, _-_, _≤_, _<_}
@@ -16,7 +14,7 @@ use native.Mathlib.Omega.{arith}
 use native.Mathlib.Decide.{ℕ-discrete}
 use borrow.Author.Tests.{ne-eqb}
 use lib.ListN.{length, getD, set, take, length-set}
-use lib.Seq.{getD-set-same, getD-set-other, take-all, take-append-le}
+use lib.Seq.{getD-set-same, getD-set-other}
 use Rattle.scope.specs.Answers.{DONE, FORM}
 use Rattle.scope.specs.Buffers.{TailKept}
 use Rattle.scope.specs.Limits.{byteValues}
@@ -24,21 +22,24 @@ use Rattle.scope.specs.Room.{Sound}
 use Rattle.scope.proofs.Buffers.{all-kept}
 use Rattle.scope.proofs.Run.{bytes-append}
 use Rattle.scope.proofs.Tests.{split}
-use Rattle.desk.specs.declared.Standing.{Standing}
+use Rattle.forms.specs.declared.Standing.{Standing}
+use Rattle.forms.specs.Text.{BACK, CLOSE, Literal, roomOf, IsAccepted, IsDead}
+use Rattle.forms.specs.Form.{fieldLimit, textLimit, lengthsAt, textsAt, formBytes, countOf, closedOf, lengthOf, textOf, Fields, DeskLent}
+use Rattle.forms.specs.Test.{Plain, Empty, Kept, Valid}
+use Rattle.forms.specs.Stand.{Stands, Filled, Begun}
+use Rattle.forms.specs.Stand as stand
+use Rattle.forms.proofs.Dead.{accepted-kept}
+use Rattle.forms.proofs.Texts.{text-length, text-bytes}
+use Rattle.forms.proofs.Standings.{accepted-sound, Held, stands-held, inside, text-first, text-held, text-lost}
 use Rattle.desk.specs.Answers.{DEAD-BYTE, UNFINISHED, LENGTH, CLOSED}
-use Rattle.desk.specs.Entry.{Entry, openText, BACK, CLOSE, Literal, retyped}
-use Rattle.desk.specs.Form.{fieldLimit, textLimit, lengthsAt, textsAt, formBytes, countOf, closedOf, lengthOf, textOf, Fields, Shows}
-use Rattle.desk.specs.Key.{roomOf, IsAccepted, IsDead, all-closed, taken-back, field-closed, not-finished, too-long, dead-byte, byte-taken}
-use Rattle.desk.specs.Open.{DeskLent, AllSound}
+use Rattle.desk.specs.Entry.{Entry, openText, retyped}
+use Rattle.desk.specs.Show.{Shows}
+use Rattle.desk.specs.Key.{all-closed, taken-back, field-closed, not-finished, too-long, dead-byte, byte-taken}
+use Rattle.desk.specs.Open.{AllSound}
 use Rattle.desk.specs.Press.{Ready, Presses, no-room, no-form, answered}
-use Rattle.desk.specs.Test.{Plain, Empty, Kept, Valid}
-use Rattle.desk.specs.Stand.{Stands, Filled, Begun, Retyped}
-use Rattle.desk.specs.Stand as stand
-use Rattle.desk.proofs.Dead.{accepted-kept}
+use Rattle.desk.specs.Retype.{Retyped}
 use Rattle.desk.proofs.Good.{retyped-here, retyped-there}
-use Rattle.desk.proofs.Shown.{text-length, text-bytes}
 use Rattle.desk.proofs.Exact.{given-valid, Found, valid-given}
-use Rattle.desk.proofs.Standings.{accepted-sound, Held, stands-held}
 
 -- a field with no text passes
 empty-plain : {form : List ℕ} {f : ℕ} → Empty form f → Plain form f
@@ -113,13 +114,9 @@ module _ {rooms form : List ℕ} (lent : DeskLent (countOf form) rooms form) whe
 -- ---- the open field
 
 module _ {rooms form : List ℕ} {f : ℕ} (b : Begun rooms form f) where
-  -- it is one of the form's
-  pub inside : f < fieldLimit
-  inside = omega (arith, b .is-open, b .fields .few)
-
   -- it is no field that keys lead to
   pub presses-unplain : {key : ℕ} → (Plain form f → ⊥) → Presses rooms form form key FORM
-  presses-unplain n = refused (b .lent) (λ s v. n (v .plain f inside))
+  presses-unplain n = refused (b .lent) (λ s v. n (v .plain f (inside b)))
 
   pub presses-lost : {key : ℕ} → (Sound (roomOf rooms f) → Kept (roomOf rooms f) (textOf form f) → ⊥) → Presses rooms form form key FORM
   presses-lost n = refused (b .lent) (λ s v. n (s f (b .is-open)) (rw (b .at) at (v .open-kept (omega (arith, b .at, b .is-open)))))
@@ -158,18 +155,18 @@ module _ {rooms form : List ℕ} {f : ℕ} (b : Begun rooms form f) where
     closed-at = found .closed ∙ b .at
 
     open-text : openText entry ≡ textOf form f
-    open-text = ap (entry .text) closed-at ∙ found .texts f inside
+    open-text = ap (entry .text) closed-at ∙ found .texts f (inside b)
 
     is-open : entry .closed < countOf form
     is-open = omega (arith, closed-at, b .is-open)
 
     size : length (openText entry) ≡ lengthOf form f
-    size = ap length open-text ∙ text-length form f (b .lent .form-long) inside (p .short)
+    size = ap length open-text ∙ text-length form f (b .lent .form-long) (inside b) (p .short)
 
     -- 0x08
     pub presses-back : {form′ : List ℕ} → Retyped form form′ f (take (lengthOf form f - 1) (textOf form f)) → Presses rooms form form′ BACK DONE
     presses-back r =
-        answered (b .lent) ready (taken-back is-open refl) (rw (size, open-text) (shows-retyped inside r (found .given .shows) closed-at)) (tail-retyped inside r)
+        answered (b .lent) ready (taken-back is-open refl) (rw (size, open-text) (shows-retyped (inside b) r (found .given .shows) closed-at)) (tail-retyped (inside b) r)
 
     -- 0x0D on an accepted text
     presses-closed : IsAccepted (roomOf rooms f) (textOf form f) → Presses rooms form (set form 1 (f + 1)) CLOSE DONE
@@ -200,53 +197,36 @@ module _ {rooms form : List ℕ} {f : ℕ} (b : Begun rooms form f) where
     presses-taken : {key : ℕ} {form′ : List ℕ} → Literal key → lengthOf form f < textLimit → (IsDead (roomOf rooms f) (textOf form f ++ (key ∷ [])) → ⊥)
         → Retyped form form′ f (textOf form f ++ (key ∷ [])) → Presses rooms form form′ key DONE
     presses-taken {key} l h n r = answered (b .lent) ready (byte-taken is-open l (omega (arith, size)) (λ d. n (rw (closed-at, open-text) at d)))
-        (rw (ne-eqb key BACK (l .0), ne-eqb key CLOSE (l .1), open-text) (shows-retyped inside r (found .given .shows) closed-at)) (tail-retyped inside r)
+        (rw (ne-eqb key BACK (l .0), ne-eqb key CLOSE (l .1), open-text) (shows-retyped (inside b) r (found .given .shows) closed-at)) (tail-retyped (inside b) r)
 
 -- ---- by how the field stands
 
 module _ {rooms form : List ℕ} {f : ℕ} (b : Begun rooms form f) (p : Plain form f) (known : (i : ℕ) → getD form i 0 < byteValues) where
-  -- the text of the field is as long as the form says
-  long : length (textOf form f) ≡ lengthOf form f
-  long = text-length form f (b .lent .form-long) (inside b) (p .short)
-
-  whole : take (lengthOf form f) (textOf form f) ≡ textOf form f
-  whole = take-all (lengthOf form f) (textOf form f) (omega (arith, long))
-
-  -- and is what a byte after it leaves
-  first : (key : ℕ) → take (lengthOf form f) (textOf form f ++ (key ∷ [])) ≡ textOf form f
-  first key = take-append-le (lengthOf form f) (textOf form f) (key ∷ []) (omega (arith, long)) ∙ whole
-
   -- the field as it is
   abbrev Stood : Standing → Type 0
   Stood s = Stands (roomOf rooms f) (textOf form f) (lengthOf form f) s
 
-  pub text-held : {s : Standing} → Stood s → Held s → Sound (roomOf rooms f) × Kept (roomOf rooms f) (textOf form f)
-  text-held u h = rw whole at (stands-held (text-bytes form f known) u h)
-
-  pub text-lost : Stood Standing.Lost → Sound (roomOf rooms f) × Kept (roomOf rooms f) (textOf form f) → ⊥
-  text-lost (stand.lost n) h = n (h .0) (rw whole (h .1))
-
   -- 0x0D
   pub closes : Stood Standing.Accepted → Presses rooms form (set form 1 (f + 1)) CLOSE DONE
-  closes u = let h = text-held u tt in presses-closed b p known (h .0) (h .1) (go u)
+  closes u = let h = text-held b p known u tt in presses-closed b p known (h .0) (h .1) (go u)
     where
       go : Stood Standing.Accepted → IsAccepted (roomOf rooms f) (textOf form f)
       go (stand.accepted a) = a
 
   pub closes-unfinished : Stood Standing.Unfinished → Presses rooms form form CLOSE UNFINISHED
-  closes-unfinished u = let h = text-held u tt in presses-unfinished b p known (h .0) (h .1) (go u)
+  closes-unfinished u = let h = text-held b p known u tt in presses-unfinished b p known (h .0) (h .1) (go u)
     where
       go : Stood Standing.Unfinished → IsAccepted (roomOf rooms f) (textOf form f) → ⊥
       go (stand.unfinished s n d) = n
 
   pub closes-dead : Stood Standing.Dead → Presses rooms form form CLOSE UNFINISHED
-  closes-dead u = let h = text-held u tt in presses-unfinished b p known (h .0) (h .1) (go u)
+  closes-dead u = let h = text-held b p known u tt in presses-unfinished b p known (h .0) (h .1) (go u)
     where
       go : Stood Standing.Dead → IsAccepted (roomOf rooms f) (textOf form f) → ⊥
       go (stand.dead d k) a = accepted-kept (text-bytes form f known) a d
 
   pub closes-lost : {key : ℕ} → Stood Standing.Lost → Presses rooms form form key FORM
-  closes-lost u = presses-lost b (λ s k. text-lost u (s, k))
+  closes-lost u = presses-lost b (λ s k. text-lost b p known u (s, k))
 
   -- the field with a byte after it
   module _ {key : ℕ} (byte : key < byteValues) (l : Literal key) (h : lengthOf form f < textLimit) where
@@ -255,7 +235,7 @@ module _ {rooms form : List ℕ} {f : ℕ} (b : Begun rooms form f) (p : Plain f
 
     -- where it is not lost, neither is the field as it is
     typed-held : {s : Standing} → Typed s → Held s → Sound (roomOf rooms f) × Kept (roomOf rooms f) (textOf form f)
-    typed-held u h = rw (first key) at (stands-held (bytes-append (textOf form f) (key ∷ []) (text-bytes form f known) (byte, tt)) u h)
+    typed-held u h = rw (text-first b p known key) at (stands-held (bytes-append (textOf form f) (key ∷ []) (text-bytes form f known) (byte, tt)) u h)
 
     module _ {form′ : List ℕ} (r : Retyped form form′ f (textOf form f ++ (key ∷ []))) where
       pub types-accepted : Typed Standing.Accepted → Presses rooms form form′ key DONE
@@ -280,4 +260,4 @@ module _ {rooms form : List ℕ} {f : ℕ} (b : Begun rooms form f) (p : Plain f
     types-lost u = presses-lost b (go u)
       where
         go : Typed Standing.Lost → Sound (roomOf rooms f) → Kept (roomOf rooms f) (textOf form f) → ⊥
-        go (stand.lost n) s k = n s (rw (first key) k)
+        go (stand.lost n) s k = n s (rw (text-first b p known key) k)

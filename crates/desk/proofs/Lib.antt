@@ -1,14 +1,10 @@
-pub mod Dead
 pub mod Good
 pub mod Shown
 pub mod Exact
-pub mod Places
 pub mod One
 pub mod Open
 pub mod Presses
 pub mod History
-pub mod Standings
 pub mod Keys
 pub mod Retyping
-pub mod Testing
 pub mod Laws

@@ -11,9 +11,10 @@ use lib.ListN.{length, getD}
 use lib.Seq.{ext-getD}
 use Rattle.scope.specs.Buffers.{TailKept}
 use Rattle.scope.proofs.Buffers.{tail-one}
+use Rattle.forms.specs.Form.{fieldLimit, textLimit, formBytes}
+use Rattle.forms.proofs.Places.{Place, counts, closes, measures, spells, place}
 use Rattle.desk.specs.Entry.{Entry}
-use Rattle.desk.specs.Form.{fieldLimit, textLimit, formBytes, Shows}
-use Rattle.desk.proofs.Places.{Place, counts, closes, measures, spells, place}
+use Rattle.desk.specs.Show.{Shows}
 
 -- two entries that no form tells apart
 pub record Agree (e e′ : Entry) : Type 0 where

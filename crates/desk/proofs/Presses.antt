@@ -17,10 +17,12 @@ use lib.ListN.{length}
 use Rattle.scope.specs.Answers.{DONE}
 use Rattle.scope.proofs.Tests.{which}
 use Rattle.scope.proofs.Buffers.{all-kept}
+use Rattle.forms.specs.Text.{BACK, CLOSE, Literal, roomOf, IsAccepted, IsDead}
+use Rattle.forms.specs.Form.{fieldLimit, textLimit, formBytes}
 use Rattle.desk.specs.Answers.{DEAD-BYTE, UNFINISHED, LENGTH, CLOSED}
-use Rattle.desk.specs.Entry.{Entry, openText, BACK, CLOSE, Literal, retyped, typed}
-use Rattle.desk.specs.Form.{fieldLimit, textLimit, formBytes, Shows}
-use Rattle.desk.specs.Key.{roomOf, IsAccepted, IsDead, Judges, all-closed, taken-back, field-closed, not-finished, too-long, dead-byte, byte-taken, after}
+use Rattle.desk.specs.Entry.{Entry, openText, retyped, typed}
+use Rattle.desk.specs.Show.{Shows}
+use Rattle.desk.specs.Key.{Judges, all-closed, taken-back, field-closed, not-finished, too-long, dead-byte, byte-taken, after}
 use Rattle.desk.specs.Press.{Ready, Presses, no-room, no-form, answered}
 use Rattle.desk.proofs.Good.{gives-good}
 use Rattle.desk.proofs.One.{Agree, agree-self, entry-one, shown-one}

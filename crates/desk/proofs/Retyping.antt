@@ -10,10 +10,10 @@ use native.Mathlib.Decide.{ℕ-discrete}
 use lib.ListN.{length, getD, set, take, length-set, length-take, length-append, List·getD-eq-default, List·getD-append}
 use lib.Seq.{getD-set-same, getD-set-other, getD-take, getD-append-seam}
 use Rattle.scope.proofs.Tests.{split}
-use Rattle.desk.specs.Form.{fieldLimit, textLimit, lengthsAt, textsAt, formBytes, lengthOf, byteOf, textOf}
-use Rattle.desk.specs.Stand.{Retyped}
-use Rattle.desk.specs.Test.{Plain}
-use Rattle.desk.proofs.Shown.{text-length, text-byte}
+use Rattle.forms.specs.Form.{fieldLimit, textLimit, lengthsAt, textsAt, formBytes, lengthOf, byteOf, textOf}
+use Rattle.forms.specs.Test.{Plain}
+use Rattle.forms.proofs.Texts.{text-length, text-byte}
+use Rattle.desk.specs.Retype.{Retyped}
 
 module _ {form : List ℕ} {f : ℕ} (h : f < fieldLimit) (l : formBytes ≤ length form) where
   -- the byte i of the text is v, the others are those of the form, and there are n

@@ -2,16 +2,15 @@
 --   Entry: how many fields are closed, and the text of each
 --   nothing: nothing is entered yet
 --   openText e: the text of the open field, the first that is not closed
---   BACK, CLOSE: the two bytes that are keys; Literal key: any other byte
 --   typed e key: the entry after a key that was accepted
 --   history keys: the entry after accepted keys
 use Prim.Native.Nat.{ℕ, _+_, _-_}
-use mathlib.Core.Path.{_≡_}
 use mathlib.Core.Bool.{cond}
 use mathlib.Core.List.{List, [], _∷_, _++_}
 use lib.Dec.{eqb}
 use lib.ListN.{length, take}
 use Rattle.scope.specs.Machine.{walk}
+use Rattle.forms.specs.Text.{BACK, CLOSE}
 
 -- "fields closed", and "texts": of every field, those that the form has not are empty
 pub record Entry : Type 0 where
@@ -25,18 +24,6 @@ nothing = record { closed = 0; text = λ f. [] }
 -- fields are filled in their order
 abbrev pub openText : Entry → List ℕ
 openText e = e .text (e .closed)
-
--- "0x08 takes back the last byte"
-abbrev pub BACK : ℕ
-BACK = 8
-
--- "0x0D closes an Accepted field and moves on"
-abbrev pub CLOSE : ℕ
-CLOSE = 13
-
--- "These two bytes are keys, never text."
-abbrev pub Literal : ℕ → Type 0
-Literal key = (key ≡ BACK → ⊥) × (key ≡ CLOSE → ⊥)
 
 -- the entry with another text in its open field
 abbrev pub retyped : Entry → List ℕ → Entry

@@ -1,33 +1,19 @@
 -- What a key does to an entry, by the matcher's answers alone.
---   roomOf rooms f: the machine room of the field f
---   IsAccepted, IsDead: matching answers Accepted, or Dead
 --   Judges rooms n e key: the answer to a key, where n fields have the entry e
 --   after e key number: the entry then
 --   Gives rooms n e: some keys from an opened form lead to the entry e
-use Prim.Native.Nat.{ℕ, _*_, _<_, _≤_}
+use Prim.Native.Nat.{ℕ, _<_, _≤_}
 use mathlib.Core.Path.{_≡_}
 use mathlib.Core.Bool.{cond}
 use mathlib.Core.List.{List, [], _∷_, _++_}
 use lib.Dec.{eqb}
-use lib.ListN.{length, drop}
-use Rattle.scope.specs.Answers.{DONE, ACCEPTED, DEAD}
-use Rattle.scope.specs.Limits.{byteValues, roomBytes}
-use Rattle.scope.specs.Match.{Matches}
+use lib.ListN.{length}
+use Rattle.scope.specs.Answers.{DONE}
+use Rattle.scope.specs.Limits.{byteValues}
+use Rattle.forms.specs.Text.{BACK, CLOSE, Literal, roomOf, IsAccepted, IsDead}
+use Rattle.forms.specs.Form.{textLimit}
 use Rattle.desk.specs.Answers.{DEAD-BYTE, UNFINISHED, LENGTH, CLOSED}
-use Rattle.desk.specs.Entry.{Entry, nothing, openText, BACK, CLOSE, Literal, typed}
-use Rattle.desk.specs.Form.{textLimit}
-
--- "the machine rooms are lent end to end with every call"
-abbrev pub roomOf : List ℕ → ℕ → List ℕ
-roomOf rooms f = drop (f * roomBytes) rooms
-
--- what matching answers: "an Accepted field", "the field with that byte is Dead"
-abbrev pub IsAccepted : List ℕ → List ℕ → Type 0
-IsAccepted room text = Matches room text ACCEPTED 0
-
-pub record IsDead (room text : List ℕ) : Type 0 where
-  pub place : ℕ
-  pub matched : Matches room text DEAD place
+use Rattle.desk.specs.Entry.{Entry, nothing, openText, typed}
 
 module _ (rooms : List ℕ) (n : ℕ) (e : Entry) (key : ℕ) where
   pub data Judges : ℕ → Type 0 where

@@ -1,9 +1,8 @@
 pub mod Answers
-pub mod Form
 pub mod Entry
+pub mod Show
 pub mod Key
 pub mod Open
 pub mod Press
-pub mod Test
 pub mod History
-pub mod Stand
+pub mod Retype

@@ -1,25 +1,18 @@
 -- Opening a form.
---   DeskLent n rooms form: the form and n machine rooms are long enough
 --   AllSound rooms n: each of the n machines is sound
 --   Opens: what opening answers, and what the form holds then. Index: number.
 -- Determined: the conditions exclude one another, and a form of nothing is one.
-use Prim.Native.Nat.{ℕ, _*_, _<_, _≤_}
+use Prim.Native.Nat.{ℕ, _<_}
 use mathlib.Core.Path.{_≡_}
 use mathlib.Core.List.{List}
-use lib.ListN.{length}
 use Rattle.scope.specs.Answers.{DONE, ROOM, FORM}
 use Rattle.scope.specs.Buffers.{TailKept}
-use Rattle.scope.specs.Limits.{roomBytes}
 use Rattle.scope.specs.Room.{Sound}
+use Rattle.forms.specs.Form.{formBytes, Fields, DeskLent}
+use Rattle.forms.specs.Text.{roomOf}
 use Rattle.desk.specs.Answers.{FIELDS}
 use Rattle.desk.specs.Entry.{nothing}
-use Rattle.desk.specs.Form.{formBytes, Fields, Shows}
-use Rattle.desk.specs.Key.{roomOf}
-
--- not ROOM: "rooms short of the form's count too"
-pub record DeskLent (n : ℕ) (rooms form : List ℕ) : Type 0 where
-  pub form-long : formBytes ≤ length form
-  pub rooms-long : n * roomBytes ≤ length rooms
+use Rattle.desk.specs.Show.{Shows}
 
 -- not FORM: "9 for an unsound machine"
 abbrev pub AllSound : List ℕ → ℕ → Type 0

@@ -8,10 +8,11 @@ use mathlib.Core.Path.{_≡_}
 use mathlib.Core.List.{List}
 use Rattle.scope.specs.Answers.{ROOM, FORM}
 use Rattle.scope.specs.Buffers.{TailKept}
+use Rattle.forms.specs.Form.{formBytes, countOf, Fields, DeskLent}
 use Rattle.desk.specs.Entry.{Entry}
-use Rattle.desk.specs.Form.{formBytes, countOf, Fields, Shows}
+use Rattle.desk.specs.Show.{Shows}
 use Rattle.desk.specs.Key.{Judges, after, Gives}
-use Rattle.desk.specs.Open.{DeskLent, AllSound}
+use Rattle.desk.specs.Open.{AllSound}
 
 -- "a form these machines and keys can't give": some keys from an opened form lead to it
 pub record CanGive (rooms form : List ℕ) : Type 0 where

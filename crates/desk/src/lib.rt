@@ -3,33 +3,17 @@
 // A form is a lent buffer, and the machine rooms are lent end to end with every call. Nothing is kept between calls, so each key judges all that it is lent:
 // that the machines are sound, and that the form is one that they and some keys can give. Of the library the desk uses the contracts of matching and of the
 // test whether a room is sound, beside the helpers on slices, and not how they do it. A key costs one judgement of each room, one pass over each closed text,
-// and one match of the open field. One file a part: `test` judges a form, `stand` how the open field stands, `typing` does the keys.
-mod stand;
-mod test;
+// and one match of the open field. The crate `forms` judges a form and how its open field stands; `typing` does the keys.
 mod typing;
 
+use forms::FIELDS;
+use forms::FORM;
+use forms::test;
 ghost use mathlib.Core.Path.{_≡_};
+ghost use Rattle.forms.specs.Form.{countOf, DeskLent};
 ghost use Rattle.desk.specs.Answers.{openedNumber, pressedNumber};
-ghost use Rattle.desk.specs.Form.{countOf};
-ghost use Rattle.desk.specs.Open.{DeskLent, Opens};
+ghost use Rattle.desk.specs.Open.{Opens};
 ghost use Rattle.desk.specs.Press.{Presses};
-
-// The most fields, and the most bytes of a text.
-pub const FIELDS: usize = 16;
-
-pub const TEXT: usize = 128;
-
-// Where the parts of a form begin, and its size.
-pub const LENGTHS_AT: usize = 2;
-
-pub const TEXTS_AT: usize = LENGTHS_AT + FIELDS;
-
-pub const FORM: usize = TEXTS_AT + FIELDS * TEXT;
-
-// The two bytes that are keys and never text: take back the last byte, close the field.
-pub const BACK: u8 = 0x08;
-
-pub const CLOSE: u8 = 0x0D;
 
 // What opening answers.
 pub enum Opened {
@@ -79,14 +63,6 @@ impl Pressed {
             Pressed::Closed => 13,
         }
     }
-}
-
-// How the text of an open field stands, with a byte after it or not; Lost if no keys lead to the field.
-pub enum Standing {
-    Accepted,
-    Unfinished,
-    Dead,
-    Lost,
 }
 
 // Opens a form of so many fields, in which nothing is entered.

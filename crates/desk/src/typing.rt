@@ -1,22 +1,23 @@
 // The keys, on a form in which everything but the open field was judged.
-use crate::BACK;
-use crate::CLOSE;
-use crate::LENGTHS_AT;
 use crate::Pressed;
-use crate::Standing;
-use crate::TEXT;
-use crate::TEXTS_AT;
-use crate::stand;
-use crate::test;
+use forms::BACK;
+use forms::CLOSE;
+use forms::LENGTHS_AT;
+use forms::Standing;
+use forms::TEXT;
+use forms::TEXTS_AT;
+use forms::stand;
+use forms::test;
 ghost use Prim.Native.Nat.{_-_, _<_, _≤_};
 ghost use mathlib.Core.List.{[], _∷_, _++_};
 ghost use lib.ListN.{length, take};
+ghost use Rattle.forms.specs.Text as text;
+ghost use Rattle.forms.specs.Form.{fieldLimit, textLimit, formBytes, lengthOf, textOf};
+ghost use Rattle.forms.specs.Test.{Plain};
+ghost use Rattle.forms.specs.Stand.{Begun};
 ghost use Rattle.desk.specs.Answers.{pressedNumber};
-ghost use Rattle.desk.specs.Entry as entry;
-ghost use Rattle.desk.specs.Form.{fieldLimit, textLimit, formBytes, lengthOf, textOf};
 ghost use Rattle.desk.specs.Press.{Presses};
-ghost use Rattle.desk.specs.Test.{Plain};
-ghost use Rattle.desk.specs.Stand.{Begun, Retyped};
+ghost use Rattle.desk.specs.Retype.{Retyped};
 
 // Takes the last byte out of the field f, if there is one.
 fn take_last(form: &mut [u8], f: usize)
@@ -43,7 +44,7 @@ fn append(form: &mut [u8], f: usize, key: u8)
 // The key that takes back the last byte.
 fn take_back(rooms: &[u8], form: &mut [u8], f: usize) -> Pressed
     requires { ⌜ Begun (now rooms) (now form) f × Plain (now form) f ⌝ }
-    ensures { λ r. ⌜ Presses (now (rooms .entry)) (now (form .entry)) (now (form .exit)) entry.BACK (pressedNumber r) ⌝ }
+    ensures { λ r. ⌜ Presses (now (rooms .entry)) (now (form .entry)) (now (form .exit)) text.BACK (pressedNumber r) ⌝ }
 {
     if !stand::is_kept(rooms, form, f) {
         return Pressed::Form;
@@ -55,7 +56,7 @@ fn take_back(rooms: &[u8], form: &mut [u8], f: usize) -> Pressed
 // The key that closes the field.
 fn close(rooms: &[u8], form: &mut [u8], f: usize) -> Pressed
     requires { ⌜ Begun (now rooms) (now form) f × Plain (now form) f ⌝ }
-    ensures { λ r. ⌜ Presses (now (rooms .entry)) (now (form .entry)) (now (form .exit)) entry.CLOSE (pressedNumber r) ⌝ }
+    ensures { λ r. ⌜ Presses (now (rooms .entry)) (now (form .entry)) (now (form .exit)) text.CLOSE (pressedNumber r) ⌝ }
 {
     let standing = stand::of_text(rooms, form, f);
     match standing {
@@ -71,7 +72,7 @@ fn close(rooms: &[u8], form: &mut [u8], f: usize) -> Pressed
 
 // Any other byte.
 fn add(rooms: &[u8], form: &mut [u8], f: usize, key: u8) -> Pressed
-    requires { ⌜ Begun (now rooms) (now form) f × Plain (now form) f × entry.Literal key ⌝ }
+    requires { ⌜ Begun (now rooms) (now form) f × Plain (now form) f × text.Literal key ⌝ }
     ensures { λ r. ⌜ Presses (now (rooms .entry)) (now (form .entry)) (now (form .exit)) key (pressedNumber r) ⌝ }
 {
     if form[LENGTHS_AT + f] as usize == TEXT {

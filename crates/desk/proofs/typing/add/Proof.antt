@@ -3,9 +3,9 @@ use Prim.Native.Nat.{_+_}
 use native.Mathlib.Omega.{arith}
 use borrow.Author.Needs.{needs}
 use borrow.Author.Tests.{not-true, not-false}
-use Rattle.desk.specs.Form.{lengthsAt}
-use Rattle.desk.proofs.Standings.{stood}
-use Rattle.desk.proofs.Keys.{inside, presses-lost, presses-long, types-accepted, types-unfinished, types-dead, types-lost}
+use Rattle.forms.specs.Form.{lengthsAt}
+use Rattle.forms.proofs.Standings.{stood, inside}
+use Rattle.desk.proofs.Keys.{presses-lost, presses-long, types-accepted, types-unfinished, types-dead, types-lost}
 use Rattle.desk.proofs.typing.add.Statement.{statement}
 use Rattle.desk.proofs.typing.add.Tie as tie
 

@@ -1,7 +1,7 @@
 -- Each standing of the field is one law.
 use borrow.Author.Needs.{needs}
 use native.Mathlib.Omega.{arith}
-use Rattle.desk.proofs.Standings.{stood}
+use Rattle.forms.proofs.Standings.{stood}
 use Rattle.desk.proofs.Keys.{closes, closes-unfinished, closes-dead, closes-lost}
 use Rattle.desk.proofs.typing.close.Statement.{statement}
 use Rattle.desk.proofs.typing.close.Tie as tie

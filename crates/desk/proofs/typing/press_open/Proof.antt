@@ -1,7 +1,8 @@
 -- A field that is not plain is none that keys lead to; else the key chooses.
 use borrow.Author.Needs.{needs}
 use borrow.Author.Tests.{not-true, not-false}
-use Rattle.desk.proofs.Keys.{inside, presses-size, presses-unplain}
+use Rattle.forms.proofs.Standings.{inside}
+use Rattle.desk.proofs.Keys.{presses-size, presses-unplain}
 use Rattle.desk.proofs.typing.press_open.Statement.{statement}
 use Rattle.desk.proofs.typing.press_open.Tie as tie
 

@@ -2,7 +2,8 @@
 use borrow.Author.Needs.{needs}
 use borrow.Author.Tests.{not-true, not-false}
 use native.Mathlib.Omega.{arith}
-use Rattle.desk.proofs.Keys.{inside, presses-lost, presses-back}
+use Rattle.forms.proofs.Standings.{inside}
+use Rattle.desk.proofs.Keys.{presses-lost, presses-back}
 use Rattle.desk.proofs.typing.take_back.Statement.{statement}
 use Rattle.desk.proofs.typing.take_back.Tie as tie
 

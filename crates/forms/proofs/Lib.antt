@@ -1,0 +1,6 @@
+pub mod Dead
+pub mod Texts
+pub mod Places
+pub mod Standings
+pub mod Testing
+pub mod Laws
