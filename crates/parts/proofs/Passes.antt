@@ -4,20 +4,22 @@
 --   Tried R old h q p: of the chain only p, and what it leads to, is still to be compared with q
 --   tried-first, tried-more, tried-less: comparing along the chain
 --   place-old, place-head, place-still, place-found, place-none: the state itself, that which begins the old part, or one of the chain is the first that agrees
+--   rank, Facing, facing-in, facing-found, facing-more, facing-less: the walk from the state that begins the old part along its chain
 --   Passed R old new₀ new link parent parent′ born born′ r opened q: the pass has come to the state q
 --   chain-kept, chain-opened: what that does to the links
 --   passed-none, passed-stays, passed-joined, passed-opened: a state stays in its part, joins a new one, or opens one
 use Prim.Native.Nat.{ℕ, zero, suc, _+_, _≤_, _<_}
 use mathlib.Core.Path.{_≡_, refl, sym, ap, _∙_}
-use mathlib.Core.Bool.{Bool, true, false}
-use mathlib.Core.Logic.{inl, inr}
+use mathlib.Core.Bool.{Bool, true, false, cond}
+use mathlib.Core.Logic.{_⊎_, inl, inr}
 use mathlib.Core.List.{List, [], _∷_}
 use native.Mathlib.Omega.{arith}
 use native.Mathlib.Decide.{ℕ-discrete}
 use borrow.Author.Count.{below-more}
+use lib.Dec.{ltb}
 use lib.Seq.{getD-set-same, getD-set-other}
 use lib.ListN.{length, getD, set, length-set}
-use Rattle.scope.proofs.Tests.{split}
+use Rattle.scope.proofs.Tests.{split, below, not-below}
 use Rattle.slices.specs.Parts.{Decides}
 use Rattle.slices.proofs.Laws.{holds, fails}
 use Rattle.parts.specs.Parts.{First, Renamed, Alike, Agree}
@@ -41,6 +43,10 @@ last-more R old h e l d n = record {
     | inr x ↦ (let z : p ≡ e = omega (arith, w .below) in n (rw z at w))
   ];
 }
+
+-- how far the walk along a chain is from its end: p, or q where p begins the old part
+abbrev pub rank : ℕ → ℕ → ℕ → ℕ
+rank h q p = cond (ltb h p) p q
 
 pub record Tried (R : ℕ → ℕ → Type 0) (old : List ℕ) (h q p : ℕ) : Type 0 where
   pub is : 0 < p → Within R old h q p
@@ -118,6 +124,33 @@ module _ (next : ℕ → ℕ → ℕ) (old : List ℕ) (q : ℕ) (f : First (Ali
                 | inr m ↦ (let y : x ≡ h = omega arith in n (rw y at a))
               ]
             ]
+
+    module _ (l : h < q) where
+      -- p begins the old part, or is of its chain, and neither the one that begins it nor one of the chain above p agrees with q
+      abbrev pub Facing : ℕ → Type 0
+      Facing p = (p ≡ h) ⊎ ((0 < p) × Tried R old h q p × (R h q → ⊥))
+
+      -- p is of the part of q, and below it
+      pub facing-in : (p : ℕ) → Facing p → (p < q) × Alike old p q
+      facing-in p (inl e) = rw e (l, f .like)
+      facing-in p (inr (k, t, n)) = (t .is k .below, t .is k .part)
+
+      -- it agrees
+      pub facing-found : (p : ℕ) → Facing p → R p q → First R q p
+      facing-found p (inl e) a = rw e (place-head (rw e at a))
+      facing-found p (inr (k, t, n)) a = place-found p (t .is k) a
+
+      -- it does not
+      pub facing-more : (p : ℕ) → Facing p → (R p q → ⊥) → Tried R old h q (getD link p 0) × (R h q → ⊥)
+      facing-more p (inl e) n = rw e (tried-first l, rw e at n)
+      facing-more p (inr (k, t, m)) n = (tried-more p t k n, m)
+
+      -- the chain falls; the state that begins the old part comes before all of it
+      pub facing-less : (p : ℕ) → Facing p → Within R old h q (getD link p 0) → rank h q (getD link p 0) < rank h q p
+      facing-less p (inl e) w = rw (below h (getD link p 0) .full (w .above), not-below h p (omega arith)) (w .below)
+      facing-less p (inr (k, t, n)) w =
+          let v = t .is k in
+          rw (below h (getD link p 0) .full (w .above), below h p .full (v .above)) (tried-less p v)
 
 pub record Passed (R : ℕ → ℕ → Type 0) (old new₀ new link parent parent′ born born′ : List ℕ) (r : ℕ) (opened : Bool) (q : ℕ) : Type 0 where
   pub named : Renamed R new₀ new q

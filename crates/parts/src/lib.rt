@@ -159,17 +159,14 @@ fn walk(
     ensures { λ r. ⌜ First (Agree ((both (now (a .entry)) (now (b .entry))) .next) (now (part .entry))) q r ⌝ }
 {
     let h = part[q] as usize;
-    if agree(a, b, left, right, count, few, rows, part, h, q) {
-        return h;
-    }
-    let mut p = link[h] as usize;
-    while 0 < p {
-        if agree(a, b, left, right, count, few, rows, part, p, q) {
-            return p;
-        }
+    let mut p = h;
+    while !agree(a, b, left, right, count, few, rows, part, p, q) {
         p = link[p] as usize;
+        if p == 0 {
+            return q;
+        }
     }
-    q
+    p
 }
 
 // How many signs there are: a state has the one that its number leaves.

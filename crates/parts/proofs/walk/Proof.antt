@@ -1,88 +1,76 @@
--- The state that begins the old part does not agree with q, nor does any of the chain that was passed; p is the next to be compared, and the chain falls.
+-- Neither the state that begins the old part, where that is not p itself, nor any of the chain that was passed agrees with q; the chain falls.
+use mathlib.Core.Path.{_≡_, refl}
+use mathlib.Core.Logic.{_⊎_, inl, inr}
+use Prim.Native.Nat.{_<_}
 use native.Mathlib.Omega.{arith}
+use borrow.Author.Tests.{not-true, not-false}
 use lib.ListN.{getD}
 use Rattle.sides.specs.Side.{both}
 use Rattle.parts.specs.Parts.{Agree}
-use Rattle.parts.specs.Round.{Within}
-use Rattle.parts.proofs.Passes.{Tried, chain-low, tried-first, tried-less, tried-more, place-head, place-found, place-none}
+use Rattle.parts.proofs.Passes.{rank, Tried, chain-low, facing-in, facing-found, facing-more, facing-less, place-none}
 use Rattle.parts.proofs.walk.Statement.{statement}
 use Rattle.parts.proofs.walk.Tie as tie
 
 abbrev Inv-loop : tie.InvT-loop
-Inv-loop a b left right count few rows part link q h p₀ p = Tried (Agree ((both a b) .next) part) part (getD part q 0) q p × (Agree ((both a b) .next) part (getD part q 0) q → ⊥)
+Inv-loop a b left right count few rows part link q h p₀ p = (p ≡ getD part q 0) ⊎ ((0 < p) × Tried (Agree ((both a b) .next) part) part (getD part q 0) q p × (Agree ((both a b) .next) part (getD part q 0) q → ⊥))
 
 abbrev μ-loop : tie.MeasureT-loop
-μ-loop a b left right count few rows part link q h p₀ p = p
+μ-loop a b left right count few rows part link q h p₀ p = rank (getD part q 0) q p
 
--- p is a state of the chain
-within : (c : tie.In-loop Inv-loop μ-loop) → let s = c .before .before .before .before .before .before .before .before .args in
-    Within (Agree ((both (s .a .now) (s .b .now)) .next) (s .part .now)) (s .part .now) (getD (s .part .now) (s .q) 0) (s .q) (c .before .loop .p)
-within c = c .before .loop .inv .0 .is (c .loop-test .taken)
+-- there are at most 256 states
+few : (c : tie.After-shared-slice-known2 Inv-loop μ-loop) → c .before .before .args .q < 256
+few c = let d = c .before .before .pre in omega (arith, d .1 .1 .1 .0 .0, d .0 .0 .few-states, d .0 .1 .few-states)
+
+-- p is of the part of q, and below it
+in-part : (c : tie.At-loop Inv-loop μ-loop) → (c .loop .p < c .before .before .before .before .args .q) × (getD (c .before .before .before .before .args .part .now) (c .loop .p) 0 ≡ getD (c .before .before .before .before .args .part .now) (c .before .before .before .before .args .q) 0)
+in-part c = let d = c .before .before .before .before .pre .1 .1 .1 in facing-in _ _ _ (d .0 .1) _ (d .1) (d .0 .2) _ (c .loop .inv)
+
+-- p does not agree with q: the next of the chain
+more : (c : tie.Then1 Inv-loop μ-loop) → let s = c .before .before .before .before .before .before .args in
+    Tried (Agree ((both (s .a .now) (s .b .now)) .next) (s .part .now)) (s .part .now) (getD (s .part .now) (s .q) 0) (s .q) (getD (s .link .now) (c .before .before .loop .p) 0)
+    × (Agree ((both (s .a .now) (s .b .now)) .next) (s .part .now) (getD (s .part .now) (s .q) 0) (s .q) → ⊥)
+more c = let d = c .before .before .before .before .before .before .pre .1 .1 .1 in facing-more _ _ _ (d .0 .1) _ (d .1) (d .0 .2) _ (c .before .before .loop .inv) (c .before .agree .ensures .no (not-true _ (c .if1 .taken)))
 
 mul-h : tie.Need-mul-h Inv-loop μ-loop
-mul-h c = let d = c .before .before .pre in omega (arith, d .1 .1 .1 .0 .0, d .0 .0 .few-states, d .0 .1 .few-states)
+mul-h c = omega (arith, few c)
 
 element-copy-out-h : tie.Need-element-copy-out-h Inv-loop μ-loop
-element-copy-out-h c = let d = c .before .before .pre in omega (arith, d .1 .1 .1 .0 .0, d .0 .0 .few-states, d .0 .1 .few-states)
+element-copy-out-h c = omega (arith, few c)
 
 cast-h : tie.Need-cast-h Inv-loop μ-loop
-cast-h c = omega (arith, c .before .before .before .pre .1 .1 .1 .0 .2, c .before .before .before .fits .q)
-
-agree-requires : tie.Need-agree-requires Inv-loop μ-loop
-agree-requires c κs = let d = c .before .before .before .pre in
-    (d .0, (d .1 .0, (d .1 .1 .0, (omega (arith, d .1 .1 .1 .0 .2), d .1 .1 .1 .0 .0, d .1 .1 .1 .0 .1 .like))))
-
-returns : tie.Need-returns Inv-loop μ-loop
-returns c = place-head _ _ _ (c .before .before .before .before .before .pre .1 .1 .1 .0 .1) (c .before .agree .ensures .yes (c .if1 .taken))
-
-mul-p : tie.Need-mul-p Inv-loop μ-loop
-mul-p c = let d = c .before .before .before .before .before .pre in omega (arith, d .1 .1 .1 .0 .0, d .0 .0 .few-states, d .0 .1 .few-states, d .1 .1 .1 .0 .2)
-
-element-copy-out-p : tie.Need-element-copy-out-p Inv-loop μ-loop
-element-copy-out-p c = let d = c .before .before .before .before .before .pre in omega (arith, d .1 .1 .1 .0 .0, d .0 .0 .few-states, d .0 .1 .few-states, d .1 .1 .1 .0 .2)
-
-cast-p : tie.Need-cast-p Inv-loop μ-loop
-cast-p c = let d = c .before .before .before .before .before .before .pre in
-    omega (arith, chain-low _ _ _ _ _ (d .1 .1 .1 .0 .2) (tried-first _ _ _ (d .1 .1 .1 .0 .1) _ (d .1 .1 .1 .1) (d .1 .1 .1 .0 .2) .is), c .before .before .before .before .before .before .fits .q)
+cast-h c = omega (arith, c .before .before .before .pre .1 .1 .1 .0 .2, few (c .before))
 
 loop-holds : tie.Need-loop-holds Inv-loop μ-loop
-loop-holds c = let d = c .before .before .before .before .before .before .pre in
-    (tried-first _ _ _ (d .1 .1 .1 .0 .1) _ (d .1 .1 .1 .1) (d .1 .1 .1 .0 .2), c .before .before .agree .ensures .no (c .before .if1 .left))
+loop-holds c = inl refl
 
-agree-requires-2 : tie.Need-agree-requires-2 Inv-loop μ-loop
-agree-requires-2 c κs = let d = c .before .before .before .before .before .before .before .before .pre in
-    let w = within c in
-    (d .0, (d .1 .0, (d .1 .1 .0, (omega (arith, w .below), d .1 .1 .1 .0 .0, w .part))))
+agree-requires : tie.Need-agree-requires Inv-loop μ-loop
+agree-requires c κs = let d = c .before .before .before .before .pre in
+    let (l, e) = in-part c in
+    (d .0, (d .1 .0, (d .1 .1 .0, (omega (arith, l), d .1 .1 .1 .0 .0, e))))
 
-returns-2 : tie.Need-returns-2 Inv-loop μ-loop
-returns-2 c = place-found _ _ _ (c .before .before .before .before .before .before .before .before .before .before .pre .1 .1 .1 .0 .1) _ (within (c .before .before)) (c .before .agree2 .ensures .yes (c .if2 .taken))
+mul-p : tie.Need-mul-p Inv-loop μ-loop
+mul-p c = omega (arith, few (c .before .before .before .before), in-part (c .before .before) .0)
 
-mul-p-2 : tie.Need-mul-p-2 Inv-loop μ-loop
-mul-p-2 c = let d = c .before .before .before .before .before .before .before .before .before .before .pre in
-    omega (arith, d .1 .1 .1 .0 .0, d .0 .0 .few-states, d .0 .1 .few-states, within (c .before .before) .below)
+element-copy-out-p : tie.Need-element-copy-out-p Inv-loop μ-loop
+element-copy-out-p c = omega (arith, few (c .before .before .before .before), in-part (c .before .before) .0)
 
-element-copy-out-p-2 : tie.Need-element-copy-out-p-2 Inv-loop μ-loop
-element-copy-out-p-2 c = let d = c .before .before .before .before .before .before .before .before .before .before .pre in
-    omega (arith, d .1 .1 .1 .0 .0, d .0 .0 .few-states, d .0 .1 .few-states, within (c .before .before) .below)
+cast-p : tie.Need-cast-p Inv-loop μ-loop
+cast-p c = let d = c .before .before .before .before .before .before .before .pre .1 .1 .1 .0 in omega (arith, chain-low _ _ _ _ _ (d .2) (more (c .before) .0 .is), few (c .before .before .before .before .before))
 
-cast-p-2 : tie.Need-cast-p-2 Inv-loop μ-loop
-cast-p-2 c = let d = c .before .before .before .before .before .before .before .before .before .before .before .pre in
-    let w = within (c .before .before .before) in
-    omega (arith, tried-less _ _ _ (d .1 .1 .1 .0 .1) _ (d .1 .1 .1 .1) _ w, w .below, c .before .before .before .before .before .before .before .before .before .before .before .fits .q)
+returns : tie.Need-returns Inv-loop μ-loop
+returns c = let d = c .before .before .before .before .before .before .before .before .pre .1 .1 .1 in
+    let (t, n) = more (c .before .before) in
+    place-none _ _ _ (d .0 .1) _ (d .1) _ t (omega (arith, c .if2 .taken)) n
 
 loop-less : tie.Need-loop-less Inv-loop μ-loop
-loop-less c = let d = c .before .before .before .before .before .before .before .before .before .before .before .pre in
-    tried-less _ _ _ (d .1 .1 .1 .0 .1) _ (d .1 .1 .1 .1) _ (within (c .before .before .before))
+loop-less c = let d = c .before .before .before .before .before .before .before .before .pre .1 .1 .1 in
+    facing-less _ _ _ (d .0 .1) _ (d .1) (d .0 .2) _ (c .before .before .before .before .loop .inv) (more (c .before .before) .0 .is (omega (arith, c .if2 .left)))
 
 loop-again : tie.Need-loop-again Inv-loop μ-loop
-loop-again c = let d = c .before .before .before .before .before .before .before .before .before .before .before .pre in
-    let l = c .before .before .before .before .loop in
-    (tried-more _ _ _ (d .1 .1 .1 .0 .1) _ (d .1 .1 .1 .1) _ (l .inv .0) (c .before .before .before .loop-test .taken) (c .before .before .agree2 .ensures .no (c .before .if2 .left)), l .inv .1)
+loop-again c = let (t, n) = more (c .before .before) in inr (omega (arith, c .if2 .left), t, n)
 
-returns-3 : tie.Need-returns-3 Inv-loop μ-loop
-returns-3 c = let d = c .before .before .before .before .before .before .before .before .pre in
-    let l = c .before .loop in
-    place-none _ _ _ (d .1 .1 .1 .0 .1) _ (d .1 .1 .1 .1) _ (l .inv .0) (c .loop-test .left) (l .inv .1)
+returns-2 : tie.Need-returns-2 Inv-loop μ-loop
+returns-2 c = let d = c .before .before .before .before .before .before .pre .1 .1 .1 in facing-found _ _ _ (d .0 .1) _ (d .1) (d .0 .2) _ (c .before .before .loop .inv) (c .before .agree .ensures .yes (not-false _ (c .if1 .left)))
 
 pub walk-spec : {M : Type 1} → statement M
 walk-spec =
@@ -93,17 +81,12 @@ walk-spec =
     mul-h
     element-copy-out-h
     cast-h
+    loop-holds
     agree-requires
-    returns
     mul-p
     element-copy-out-p
     cast-p
-    loop-holds
-    agree-requires-2
-    returns-2
-    mul-p-2
-    element-copy-out-p-2
-    cast-p-2
+    returns
     loop-less
     loop-again
-    returns-3)
+    returns-2)
