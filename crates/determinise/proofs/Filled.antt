@@ -22,12 +22,12 @@ use Rattle.scope.proofs.Moves.{move-is}
 use Rattle.scope.proofs.Reached.{reached-start}
 use Rattle.scope.proofs.Tests.{which, equals}
 use Rattle.sets.specs.Value.{setBits, setAt}
+use Rattle.classes.specs.declared.Counted.{Counted}
+use Rattle.classes.specs.declared.Counted.the-variants.{Few, Many}
+use Rattle.classes.proofs.Unions.{joined-skip, joined-same}
 use Rattle.determinise.specs.Layout.{setsAt, setOf, Kept}
 use Rattle.determinise.specs.Reach.{followOf, follows, cellAt, Rows, Fits, Row, RowCase, RowAnswer, SetsOf, RowsCase, RowsAnswer}
-use Rattle.determinise.specs.declared.Counted.{Counted}
-use Rattle.determinise.specs.declared.Counted.the-variants.{Few, Many}
 use Rattle.determinise.proofs.Kept.{kept-none, kept-wide, kept-join, kept-sets}
-use Rattle.determinise.proofs.Unions.{joined-skip, joined-same}
 use Rattle.determinise.proofs.Rows.{row-fits}
 
 -- ---- the union of the follow sets

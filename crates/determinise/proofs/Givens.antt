@@ -29,18 +29,19 @@ use Rattle.scope.proofs.Moves.{same-bits, joined-is}
 use Rattle.scope.proofs.Tests.{Tests, and, itself, equals, same-test, bit-same}
 use Rattle.scope.proofs.Buffers.{all-kept}
 use Rattle.slices.proofs.Laws.{part-all}
-use Rattle.determinise.specs.Layout.{imageAt, bitAt, holds}
-use Rattle.determinise.specs.Group.{Like, Grouped, GroupAnswer}
-use Rattle.determinise.specs.Masks.{maskOf, Masked}
+use Rattle.classes.specs.Layout.{bitAt, holds}
+use Rattle.classes.specs.Group.{Like, Grouped, GroupAnswer}
+use Rattle.classes.specs.Masks.{maskOf, Masked}
+use Rattle.classes.specs.declared.Counted.{Counted}
+use Rattle.classes.specs.declared.Counted.the-variants.{Few, Many}
+use Rattle.classes.proofs.Count.{within-all}
+use Rattle.classes.proofs.Classes.{class-below, class-used}
+use Rattle.classes.proofs.Masking.{mask-like}
+use Rattle.determinise.specs.Layout.{imageAt}
 use Rattle.determinise.specs.Image.{Mapped, DescribedBy, ImageCase, ImageAnswer}
 use Rattle.determinise.specs.Build.{Given, Outcome, Builds}
-use Rattle.determinise.specs.declared.Counted.{Counted}
-use Rattle.determinise.specs.declared.Counted.the-variants.{Few, Many}
 use Rattle.determinise.specs.declared.Built.{Built}
 use Rattle.determinise.specs.declared.Built.the-variants.{Done, Classes, States}
-use Rattle.determinise.proofs.Count.{within-all}
-use Rattle.determinise.proofs.Classes.{class-below, class-used}
-use Rattle.determinise.proofs.Masking.{mask-like}
 
 module _ (e : Re) (bytes words : List ℕ) (count last : ℕ) (null : Bool) (g : Given e bytes words count last null) where
   -- the mask of a byte has the positions that hold it

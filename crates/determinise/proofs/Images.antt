@@ -23,11 +23,11 @@ use Rattle.scope.proofs.Reached.{Covers, covers-recognises}
 use Rattle.scope.proofs.Room.{flat-in}
 use Rattle.scope.proofs.Run.{run-below, sound-closed}
 use Rattle.sets.specs.Value.{setAt, Put}
+use Rattle.classes.specs.declared.Counted.{Counted}
+use Rattle.classes.specs.declared.Counted.the-variants.{Few, Many}
 use Rattle.determinise.specs.Layout.{setsAt, setOf}
 use Rattle.determinise.specs.Reach.{follows, cellAt, Rows, Fits, SetsOf, RowsCase, RowsAnswer}
 use Rattle.determinise.specs.Image.{markBy, Headed, Stated, Mapped, DescribedBy, ImageAnswer}
-use Rattle.determinise.specs.declared.Counted.{Counted}
-use Rattle.determinise.specs.declared.Counted.the-variants.{Few, Many}
 use Rattle.determinise.specs.declared.Built.the-variants.{Done, States}
 use Rattle.determinise.proofs.Kept.{kept-join, kept-wide, kept-sets, put-kept, kept-tail}
 

@@ -23,10 +23,10 @@ use Rattle.scope.proofs.Reached.{reached-next}
 use Rattle.scope.proofs.Room.{flat-in}
 use Rattle.scope.proofs.Tests.{split}
 use Rattle.sets.specs.Value.{setAt}
+use Rattle.classes.specs.declared.Counted.the-variants.{Few, Many}
+use Rattle.classes.proofs.Count.{over-one}
 use Rattle.determinise.specs.Layout.{setsAt, setOf, Kept}
 use Rattle.determinise.specs.Reach.{follows, MasksOf, cellAt, Rows, Seated, Fits, Row, RowAnswer}
-use Rattle.determinise.specs.declared.Counted.the-variants.{Few, Many}
-use Rattle.determinise.proofs.Count.{over-one}
 use Rattle.determinise.proofs.Kept.{kept-none, kept-wide, kept-join, kept-set, kept-sets}
 
 -- ---- rows of k cells

@@ -16,7 +16,8 @@ use Rattle.scope.specs.Machine.{Recognises}
 use Rattle.scope.specs.Reached.{ManyClasses, FewClasses, ManySets, FewSets}
 use Rattle.scope.specs.Room.{machine, Sound}
 use Rattle.sets.specs.Value.{setAt}
-use Rattle.determinise.specs.Layout.{imageAt, setsAt, holds}
+use Rattle.classes.specs.Layout.{holds}
+use Rattle.determinise.specs.Layout.{imageAt, setsAt}
 use Rattle.determinise.specs.declared.Built.{Built}
 use Rattle.determinise.specs.declared.Built.the-variants.{Done, Classes, States}
 

@@ -1,35 +1,23 @@
 -- Where sets and image lie in the lent scratch: in the bytes the byte set of each position, then the image; in the words First and the follow set of each
 -- position, then the reached sets. The code has the numbers as constants.
---   byteSet: how many bytes the byte set of a position has
 --   imageAt: where the image begins in the bytes, after the byte sets of 63 positions
 --   setsAt: the number of the first reached set in the words, after First and the follow sets of 63 positions
---   bitAt m p b: the bit b of the byte set number p, that of the position p + 1; holds m p b: the same as a test
 --   setOf w i: the reached set number i
 --   Kept old new from to: all but the elements from `from` up to `to` is kept
-use Prim.Native.Nat.{ℕ, _+_, _*_, _/_, _%_, _^_, _≤_, _<_}
+use Prim.Native.Nat.{ℕ, _+_, _*_, _≤_, _<_}
 use mathlib.Core.Path.{_≡_}
-use mathlib.Core.Bool.{Bool}
 use mathlib.Core.Logic.{_⊎_}
 use mathlib.Core.List.{List}
-use lib.Dec.{eqb}
 use lib.ListN.{length, getD}
 use Rattle.scope.specs.Limits.{positionLimit}
 use Rattle.sets.specs.Value.{setAt}
-
-abbrev pub byteSet : ℕ
-byteSet = 32
+use Rattle.classes.specs.Layout.{byteSet}
 
 abbrev pub imageAt : ℕ
 imageAt = positionLimit * byteSet
 
 abbrev pub setsAt : ℕ
 setsAt = positionLimit + 1
-
-abbrev pub bitAt : List ℕ → ℕ → ℕ → ℕ
-bitAt m p b = getD m (p * byteSet + b / 8) 0 / 2 ^ (b % 8) % 2
-
-abbrev pub holds : List ℕ → ℕ → ℕ → Bool
-holds m p b = eqb (bitAt m p b) 1
 
 abbrev pub setOf : List ℕ → ℕ → ℕ
 setOf w i = setAt w (setsAt + i)

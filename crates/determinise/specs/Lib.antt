@@ -1,8 +1,5 @@
 -- From sets of positions to a room image, one file a pass.
 pub mod Layout
-pub mod Runs
-pub mod Group
-pub mod Masks
 pub mod Reach
 pub mod Image
 pub mod Build

@@ -25,9 +25,9 @@ use Rattle.scope.specs.Re.{Re, size}
 use Rattle.scope.specs.Bits.{has, given, joined, holders, after}
 use Rattle.scope.specs.Reached.{ReachedSet, ManySets}
 use Rattle.sets.specs.Value.{setAt}
+use Rattle.classes.specs.declared.Counted.{Counted}
+use Rattle.classes.specs.declared.Counted.the-variants.{Few, Many}
 use Rattle.determinise.specs.Layout.{setsAt, setOf, Kept}
-use Rattle.determinise.specs.declared.Counted.{Counted}
-use Rattle.determinise.specs.declared.Counted.the-variants.{Few, Many}
 
 abbrev pub followOf : List ℕ → ℕ → ℕ → ℕ
 followOf w s p = given (has s p) (setAt w p)

@@ -9,9 +9,9 @@ ghost use Rattle.determinise.specs.Layout.{setsAt, setOf};
 ghost use Rattle.determinise.specs.Reach.{Fits};
 ghost use Rattle.determinise.specs.Image.{markBy, Headed, Stated, Mapped, ImageAnswer};
 use crate::Built;
-use crate::Counted;
 use crate::SETS_AT;
 use crate::reach;
+use classes::Counted;
 use scope::Machine;
 use sets::Set;
 

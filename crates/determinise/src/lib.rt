@@ -1,6 +1,5 @@
-// From the sets of positions of an expression to a sound room image whose states are the reached sets. One file a pass: `runs` finds
-// the stretches of byte values that go together, `group` gives each byte value its class, `masks` each class its positions, `reach` finds the reached sets row
-// by row, `image` writes the room around them.
+// From the sets of positions of an expression to a sound room image whose states are the reached sets. `classes` gives the classes of byte values and their masks;
+// then one file a pass: `reach` finds the reached sets row by row, `image` writes the room around them.
 ghost use mathlib.Core.Path.{_≡_};
 ghost use Prim.Native.Nat.{_+_, _*_, _≤_};
 ghost use lib.Bits.{bitOr};
@@ -9,19 +8,15 @@ ghost use Rattle.scope.specs.Buffers.{Scratch};
 ghost use Rattle.scope.specs.Limits.{positionLimit};
 ghost use Rattle.sets.specs.Value.{value};
 ghost use Rattle.determinise.specs.Build.{Builds};
+use classes::Counted;
 use scope::Machine;
 use sets::Set;
 
-mod group;
 mod image;
-mod masks;
 mod reach;
-mod runs;
 
 // The bytes hold the byte set of each position, then the image.
-pub const BYTE_SET: usize = 32;
-
-pub const IMAGE_AT: usize = Machine::POSITIONS * BYTE_SET;
+pub const IMAGE_AT: usize = Machine::POSITIONS * classes::BYTE_SET;
 
 // The words hold First and the follow set of each position, then the reached sets.
 pub const SETS_AT: usize = Machine::POSITIONS + 1;
@@ -31,12 +26,6 @@ pub enum Built {
     Done,
     Classes,
     States,
-}
-
-// How many there are, or that there are more than the limit.
-pub enum Counted {
-    Few(usize),
-    Many,
 }
 
 // The positions of Last, and the state 0 if the expression is nullable.
@@ -51,15 +40,15 @@ pub fn build(bytes: &mut [u8], words: &mut [u64], count: usize, last: Set, null:
     requires { ⌜ (count ≤ positionLimit) × Scratch (now bytes) (now words) ⌝ }
     ensures { λ r. ⌜ Builds (now (bytes .entry)) (now (words .entry)) count (value (last .words)) null (now (bytes .exit)) (now (words .exit)) r ⌝ }
 {
-    let found = runs::find(bytes, count);
+    let found = classes::runs::find(bytes, count);
     let ends = found.last;
     let runs = found.count;
-    let groups = group::group(bytes, count, &ends, runs);
+    let groups = classes::group::group(bytes, count, &ends, runs);
     let counted = groups.answer;
     match counted {
         Counted::Few(k) => {
             let map = groups.map;
-            let masks = masks::class_masks(bytes, count, &ends, runs, map);
+            let masks = classes::masks::class_masks(bytes, count, &ends, runs, map);
             image::determinise(
                 &mut bytes[IMAGE_AT..],
                 words,

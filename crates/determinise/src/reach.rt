@@ -9,8 +9,8 @@ ghost use Rattle.scope.specs.Bits.{joined};
 ghost use Rattle.sets.specs.Value.{setBits, value};
 ghost use Rattle.determinise.specs.Layout.{setsAt, setOf};
 ghost use Rattle.determinise.specs.Reach.{followOf, WordAnswer, noGuess, remainderOf, Guesses, Guessed, GuessesFor, Found, Seated, Fits, RowAnswer, RowsAnswer};
-use crate::Counted;
 use crate::SETS_AT;
+use classes::Counted;
 use scope::Machine;
 use sets::Set;
 

@@ -6,8 +6,9 @@ use borrow.Author.Needs.{needs}
 use Rattle.scope.specs.Bits.{joined}
 use Rattle.scope.specs.Limits.{setWords}
 use Rattle.sets.specs.Value.{value}
+use Rattle.classes.proofs.Unions.{joined-none}
 use Rattle.determinise.specs.Reach.{followOf}
-use Rattle.determinise.proofs.Unions.{joined-none, word-bits}
+use Rattle.determinise.proofs.Passing.{word-bits}
 use Rattle.determinise.proofs.reach.follows.Statement.{statement}
 use Rattle.determinise.proofs.reach.follows.Tie as tie
 

@@ -4,7 +4,7 @@ use native.Mathlib.Omega.{arith}
 use borrow.Author.Needs.{needs}
 use lib.Count.{trailingZeros}
 use Rattle.sets.specs.Value.{value}
-use Rattle.determinise.proofs.Unions.{Passing, passing-none, passing-in, passing-more, passing-end}
+use Rattle.determinise.proofs.Passing.{Passing, passing-none, passing-in, passing-more, passing-end}
 use Rattle.determinise.proofs.reach.follows_word.Statement.{statement}
 use Rattle.determinise.proofs.reach.follows_word.Tie as tie
 

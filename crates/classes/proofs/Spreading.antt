@@ -1,0 +1,118 @@
+-- From runs to bytes. All bytes of a run are alike, so a byte has the class of its run, and the runs before it use as many classes as the bytes before it.
+--   Spreading: the loop over the runs: the bytes of those below i have their classes
+--   spreading-none, spreading-fits, spreading-more, spreading-all: its turns
+--   group-spread: the classes of the bytes by those of their runs
+--   group-runs: the first run of each class is that of its smallest byte
+use Prim.Native.Nat.{ℕ, _+_, _≤_, _<_}
+use mathlib.Core.Path.{_≡_, refl, sym, ap, _∙_}
+use mathlib.Core.List.{List}
+use mathlib.Core.Logic.{inl, inr}
+use native.Mathlib.Omega.{arith}
+use borrow.Author.Count.{below-more}
+use lib.ListN.{length, getD, replicate, length-replicate}
+use Rattle.scope.specs.Limits.{byteValues}
+use Rattle.scope.specs.Canonical.{met, Arrival}
+use Rattle.scope.proofs.Arrival.{met-above}
+use Rattle.scope.proofs.Tests.{split}
+use Rattle.slices.specs.Parts.{Stored}
+use Rattle.classes.specs.Group.{Like, By, Grouped}
+use Rattle.classes.specs.Runs.{Listed, In, RunsOf, Spread}
+use Rattle.classes.proofs.Count.{met-used, met-least}
+use Rattle.classes.proofs.Classes.{class-below}
+
+pub record Spreading (last class map : List ℕ) (from i : ℕ) : Type 0 where
+  pub size : length map ≡ byteValues
+  pub before : (j : ℕ) → j < i → getD last j 0 < from
+  pub least : (b : ℕ) → ((j : ℕ) → j < i → getD last j 0 < b) → from ≤ b
+  pub each : (j : ℕ) → j < i → (b : ℕ) → In last j b → getD map b 0 ≡ getD class j 0
+
+-- no run
+pub spreading-none : (last class : List ℕ) → Spreading last class (replicate byteValues 0) 0 0
+spreading-none last class = record {
+  size = length-replicate {A = ℕ} byteValues 0;
+  before = λ j h. absurd (omega arith);
+  least = λ b h. omega arith;
+  each = λ j h. absurd (omega arith);
+}
+
+module _ {last class map : List ℕ} {from i e : ℕ} (l : Listed last e) (h : i < e) where
+  -- a run is within the bytes
+  pub spreading-fits : Spreading last class map from i → (from ≤ getD last i 0 + 1) × (getD last i 0 + 1 ≤ length map)
+  spreading-fits x = (x .least (getD last i 0 + 1) (λ j k. omega (arith, l .rising i h j k)), omega (arith, l .byte i h, x .size))
+
+  -- one run more
+  pub spreading-more : {map′ : List ℕ} → Stored map map′ from (getD last i 0 + 1) (λ b. getD class i 0) → Spreading last class map from i
+      → Spreading last class map′ (getD last i 0 + 1) (i + 1)
+  spreading-more {map′} s x = record {
+    size = s .size ∙ x .size;
+    before = below-more (λ (j : ℕ). getD last j 0 < getD last i 0 + 1) i (λ j k. omega (arith, l .rising i h j k)) (omega arith);
+    least = λ b k. omega (arith, k i (omega arith));
+    each = below-more (λ (j : ℕ). (b : ℕ) → In last j b → getD map′ b 0 ≡ getD class j 0) i
+        (λ j k b at. s .outside b (inl (omega (arith, at .upto, x .before j k))) ∙ x .each j k b at) (λ b at. s .inside b (omega (arith, at .upto)) (x .least b (at .after)));
+  }
+
+-- all runs
+pub spreading-all : {last class map : List ℕ} {from i e : ℕ} → e ≤ i → Spreading last class map from i → Spread last e class map
+spreading-all h x = record { size = x .size; each = λ j k. x .each j (omega arith) }
+
+module _ (m : List ℕ) (n : ℕ) {last : List ℕ} {e : ℕ} (r : RunsOf (Like m n) last e) where
+  -- class: of the runs, map: of the bytes
+  module _ {class map : List ℕ} {k : ℕ} (g : Grouped (By (Like m n) last) class k e) (s : Spread last e class map) where
+    -- a byte has the class of a run with a byte like it
+    class-like : (b : ℕ) → b < byteValues → (i : ℕ) → i < e → Like m n b (getD last i 0) → getD map b 0 ≡ getD class i 0
+    class-like b h i l x =
+        let (j, y, at, z) = r .run b h in
+        s .each j y b at ∙ g .classes .same j i y l .1 (λ p w. sym (z p w) ∙ x p w)
+
+    -- the last byte of a run has its class
+    class-last : (i : ℕ) → i < e → getD map (getD last i 0) 0 ≡ getD class i 0
+    class-last i l = class-like (getD last i 0) (r .listed .byte i l) i l (λ p h. refl)
+
+    -- the runs before that of a byte use no more numbers than the bytes before it
+    used : (i b : ℕ) → i ≤ e → ((j : ℕ) → j < i → getD last j 0 < b) → met (λ j. getD class j 0) 0 i ≤ met (λ a. getD map a 0) 0 b
+    used i b h before =
+        met-least (λ j. getD class j 0) i _ (λ j l. omega (arith, met-above (λ a. getD map a 0) 0 b (getD last j 0) (before j l), class-last j (omega arith)))
+
+    -- the classes of the bytes
+    pub group-spread : Grouped (Like m n) map k byteValues
+    group-spread = record {
+      size = s .size;
+      few = g .few;
+      classes = record {
+        same = λ a b h l. (let (i, u, x, y) = r .run a h in let (j, v, z, w) = r .run b l in
+            let there = g .classes .same i j u v in (
+              (λ q p d. y p d ∙ there .0 (sym (s .each i u a x) ∙ q ∙ s .each j v b z) p d ∙ sym (w p d)),
+              λ q. s .each i u a x ∙ there .1 (λ p d. sym (y p d) ∙ q p d ∙ w p d) ∙ sym (s .each j v b z),
+            ));
+        smallest = λ b h. (let (i, u, x, y) = r .run b h in omega (arith, s .each i u b x, g .classes .smallest i u, used i b (omega arith) (x .after)));
+        count = omega (
+          arith,
+          used e byteValues (omega arith) (r .listed .byte),
+          g .classes .count,
+          met-least (λ a. getD map a 0) byteValues k (λ b h. (let (i, u, x, y) = r .run b h in omega (arith, s .each i u b x, class-below (g .classes) i u))),
+        );
+      };
+    }
+
+  -- the first run of a class is that of its smallest byte
+  pub group-runs : {map : List ℕ} {k : ℕ} → Grouped (Like m n) map k byteValues → Arrival (λ i. getD map (getD last i 0) 0) 0 e
+  group-runs {map} {k} g i h = elim (split (met (λ j. getD map (getD last j 0) 0) 0 i) (getD map (getD last i 0) 0)) [
+    | inl l ↦ absurd (early l)
+    | inr l ↦ l
+  ]
+    where
+      early : met (λ j. getD map (getD last j 0) 0) 0 i < getD map (getD last i 0) 0 → ⊥
+      early l =
+          let class : ℕ → ℕ = λ j. getD map (getD last j 0) 0 in
+          let b = getD last i 0 in
+          let small = r .listed .byte i h in
+          let (y, u, q) = met-used (λ a. getD map a 0) b (met class 0 i) (λ a z. g .classes .smallest a (omega arith)) (omega (arith, g .classes .smallest b small)) in
+          let (j, v, at, like) = r .run y (omega arith) in
+          let same : getD map y 0 ≡ class j = g .classes .same y (getD last j 0) (omega arith) (r .listed .byte j v) .1 like in
+          elim (split j i) [
+            | inl z ↦ omega (arith, met-above class 0 i j z)
+            | inr z ↦ elim (split i j) [
+              | inl w ↦ omega (arith, at .after i w)
+              | inr w ↦ (let t : j ≡ i = omega arith in omega (arith, ap class t))
+            ]
+          ]
