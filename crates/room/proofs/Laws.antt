@@ -12,7 +12,7 @@ use lib.ListN.{length}
 use Rattle.scope.specs.Limits.{classLimit, stateLimit, classesAt, marksAt, cellsAt, roomBytes}
 use Rattle.scope.specs.Room.{statesOf, classesOf, cellOf, Below, Sound}
 use Rattle.scope.proofs.Room.{cells-fit}
-use Rattle.slices.specs.Parts.{Decides}
+use Rattle.slices.specs.Parts.{Decides, AtMost}
 use Rattle.slices.proofs.Laws.{fails}
 
 abbrev pub Judged : List ℕ → Type 0
@@ -23,7 +23,7 @@ Judged m =
 -- the last part decides, where the others are below their limits
 pub sound-last :
     {r : Bool} {m : List ℕ} → roomBytes ≤ length m → (1 ≤ statesOf m) × (statesOf m ≤ stateLimit) × (1 ≤ classesOf m) × (classesOf m ≤ classLimit)
-    → Judged m → Decides r (Below m (cellsAt + statesOf m * classesOf m) roomBytes 1) → Decides r (Sound m)
+    → Judged m → Decides r (AtMost m (cellsAt + statesOf m * classesOf m) roomBytes 0) → Decides r (Sound m)
 sound-last l h j d = record {
   yes = λ e. record {
     long = l;
@@ -35,9 +35,9 @@ sound-last l h j d = record {
     marks = j .0 .0 .1;
     marks-off = j .0 .1;
     cells = j .1;
-    cells-off = d .yes e;
+    cells-off = λ i l k. omega (arith, d .yes e i l k);
   };
-  no = λ e s. d .no e (s .cells-off);
+  no = λ e s. d .no e (λ i l k. omega (arith, s .cells-off i l k));
 }
 
 -- the others decide, where they are not

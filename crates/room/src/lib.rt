@@ -44,7 +44,7 @@ pub fn is_sound(room: &[u8]) -> bool
         && are_below(room, Machine::MARKS_AT, marks_end, 2)
         && are_below(room, marks_end, Machine::CELLS_AT, 1)
         && are_below(room, Machine::CELLS_AT, cells_end, room[0])
-        && are_below(room, cells_end, Machine::ROOM, 1)
+        && slices::are_zero(room, cells_end, Machine::ROOM)
 }
 
 // The cell for the state q and a class.

@@ -3,21 +3,30 @@
 --   stored-none, stored-more, stored-written: nothing stored; one element more; stored from the start on, as scope says it
 --   alike-more, alike-not: the comparison so far, with one element more that is the same, or not
 --   most-new, most-old: a bound of the elements so far, with one element more that is above it, or not
+--   most-join: a bound of two adjoining parts; or-zero: a union is 0 exactly if both sides are
+--   Zeros x m from to: x is 0 exactly if the elements from `from` up to `to` are
+--   zeros-none, zeros-more, zeros-join: of no elements; of one more; of two adjoining parts
+--   zeros-decide, greatest-decide: a test of such an x, or of the greatest element, for 0
+--   most-three: a test of three adjoining parts, of which the middle one comes first
 --   part-all: a part that goes to the end is what is left
 --   cleared-after: the scratch in the end, whatever was written before; all-kept, of scope: what is not touched
 use Prim.Native.Nat.{ℕ, _+_, _-_, _≤_, _<_}
 use mathlib.Core.Path.{_≡_, refl, _∙_}
 use mathlib.Core.Bool.{Bool, true, false, false≢true, true≢false}
-use mathlib.Core.Logic.{inl, inr, ⊎-elim}
+use mathlib.Core.Logic.{inl, inr, ⊎-elim, _↔_}
 use mathlib.Core.List.{List}
 use native.Mathlib.Omega.{arith}
 use borrow.Author.Count.{below-more}
+use borrow.Author.Tests.{eqb-true, eqb-false}
+use lib.Bits.{bitOr, or-add-and, and-le-l, and-le-r}
+use lib.Dec.{eqb}
 use lib.ListN.{length, getD, set, take, drop, length-set, length-drop}
 use lib.Seq.{getD-set-same, getD-set-other, take-all}
 use Rattle.scope.specs.Limits.{scratchBytes, scratchWords}
 use Rattle.scope.specs.Buffers.{Written, TailKept, Cleared}
 pub use Rattle.scope.proofs.Buffers.{all-kept}
-use Rattle.slices.specs.Parts.{Decides, Stored, Alike, AtMost}
+use Rattle.scope.proofs.Tests.{split}
+use Rattle.slices.specs.Parts.{Decides, Stored, Alike, AtMost, Greatest}
 
 -- a test that came out true
 pub holds : {P : Type 0} → P → Decides true P
@@ -74,6 +83,51 @@ most-new m from i r h f = below-more (λ (j : ℕ). from ≤ j → getD m j 0 �
 -- one element more that is not
 pub most-old : (m : List ℕ) (from i r : ℕ) → getD m i 0 ≤ r → AtMost m from i r → AtMost m from (i + 1) r
 most-old m from i r h f = below-more (λ (j : ℕ). from ≤ j → getD m j 0 ≤ r) i f (λ o. h)
+
+-- two adjoining parts
+pub most-join : (m : List ℕ) (from mid to r : ℕ) → AtMost m from mid r → AtMost m mid to r → AtMost m from to r
+most-join m from mid to r f g i h k = ⊎-elim (λ l. f i l k) (λ l. g i h l) (split i mid)
+
+-- a union is 0 exactly if both sides are
+pub or-zero : (a b : ℕ) → (bitOr a b ≡ 0) ↔ ((a ≡ 0) × (b ≡ 0))
+or-zero a b = (λ e. (omega (arith, or-add-and a b, and-le-r a b), omega (arith, or-add-and a b, and-le-l a b)), λ e. omega (arith, or-add-and a b, e .0, e .1))
+
+abbrev pub Zeros : ℕ → List ℕ → ℕ → ℕ → Type 0
+Zeros x m from to = (x ≡ 0) ↔ AtMost m from to 0
+
+-- no elements
+pub zeros-none : (m : List ℕ) (from to : ℕ) → to ≤ from → Zeros 0 m from to
+zeros-none m from to h = (λ e i l k. absurd (omega arith), λ f. refl)
+
+-- two adjoining parts
+pub zeros-join : (m : List ℕ) (a b from mid to : ℕ) → from ≤ mid → mid ≤ to → Zeros a m from mid → Zeros b m mid to → Zeros (bitOr a b) m from to
+zeros-join m a b from mid to h k f g = (
+  λ e. most-join m from mid to 0 (f .0 (or-zero a b .0 e .0)) (g .0 (or-zero a b .0 e .1)),
+  λ o. or-zero a b .1 (f .1 (λ i l n. o i (omega arith) n), g .1 (λ i l n. o i l (omega arith))),
+)
+
+-- one element more
+pub zeros-more : (m : List ℕ) (x from i to : ℕ) → from ≤ i → to ≡ i + 1 → Zeros x m from i → Zeros (bitOr x (getD m i 0)) m from to
+zeros-more m x from i to h e f = zeros-join m x (getD m i 0) from i to h (omega arith) f (own, λ o. omega (arith, o i (omega arith) (omega arith)))
+  where
+    own : getD m i 0 ≡ 0 → AtMost m i to 0
+    own z j l k = let q : j ≡ i = omega arith in rw q (omega arith)
+
+-- a test for 0 decides
+pub zeros-decide : (m : List ℕ) (x from to : ℕ) → Zeros x m from to → Decides (eqb x 0) (AtMost m from to 0)
+zeros-decide m x from to f = record { yes = λ e. f .0 (eqb-true x 0 e); no = λ e o. eqb-false x 0 e (f .1 o) }
+
+-- so does one of the greatest element
+pub greatest-decide : (m : List ℕ) (x from to : ℕ) → Greatest m from to x → Decides (eqb x 0) (AtMost m from to 0)
+greatest-decide m x from to g = zeros-decide m x from to (λ e i h k. omega (arith, g .above i h k), λ o. omega (arith, g .least 0 o))
+
+-- a test of three adjoining parts, of which the middle one comes first
+pub most-three : {b : Bool} (m : List ℕ) (from at rest to r : ℕ) → from ≤ at → at ≤ rest → rest ≤ to
+    → Decides b ((AtMost m at rest r × AtMost m from at r) × AtMost m rest to r) → Decides b (AtMost m from to r)
+most-three m from at rest to r h k l d = record {
+  yes = λ e. let o = d .yes e in most-join m from at to r (o .0 .1) (most-join m at rest to r (o .0 .0) (o .1));
+  no = λ e o. d .no e ((λ i u v. o i (omega arith) (omega arith), λ i u v. o i (omega arith) v), λ i u v. o i u (omega arith));
+}
 
 -- the scratch is zero in the end, whatever was written into the named part of it before
 pub cleared-after : {n k : ℕ} {bytes b bytes′ words w words′ : List ℕ} → n ≤ scratchBytes → k ≤ scratchWords → TailKept n bytes b → TailKept k words w

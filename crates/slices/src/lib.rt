@@ -1,9 +1,9 @@
-// What every layer needs of a lent buffer: fill, copy, compare, the greatest byte, the classes of a room; each with a contract that says every element.
-ghost use Prim.Native.Nat.{_-_, _≤_};
+// What every layer needs of a lent buffer: fill, copy, compare, the greatest byte, whether all are 0, the classes of a room; each with a contract that says every element.
+ghost use Prim.Native.Nat.{_+_, _-_, _≤_};
 ghost use lib.ListN.{length, getD};
 ghost use Rattle.scope.specs.Limits.{classesAt, marksAt};
 ghost use Rattle.scope.specs.Buffers.{Written, Scratch, Lent, Cleared};
-ghost use Rattle.slices.specs.Parts.{Decides, Stored, Alike, Greatest};
+ghost use Rattle.slices.specs.Parts.{Decides, Stored, Alike, AtMost, Greatest};
 
 // Stores v from `from` up to `to`.
 pub fn fill(m: &mut [u8], from: usize, to: usize, v: u8)
@@ -84,6 +84,39 @@ pub fn greatest(m: &[u8], from: usize, to: usize) -> u8
         i += 1;
     }
     top
+}
+
+// From a multiple of this on, many bytes are read at once with no load across the borders of such blocks.
+const BLOCK: usize = 16;
+
+// Whether two parts of `half` bytes, the first from `from` on and the second after it, are all 0. They are read side by side.
+fn are_zero_halves(m: &[u8], from: usize, half: usize) -> bool
+    requires { ⌜ from + half + half ≤ length (now m) ⌝ }
+    ensures { λ r. ⌜ Decides r (AtMost (now (m .entry)) from (from + half + half) 0) ⌝ }
+{
+    let mut first: u8 = 0;
+    let mut second: u8 = 0;
+    let mut i = from;
+    while i < from + half {
+        first = first | m[i];
+        second = second | m[i + half];
+        i += 1;
+    }
+    first | second == 0
+}
+
+// Whether the bytes from `from` up to `to` are 0. Of a long part, two halves of whole blocks are read side by side.
+pub fn are_zero(m: &[u8], from: usize, to: usize) -> bool
+    requires { ⌜ (from ≤ to) × (to ≤ length (now m)) ⌝ }
+    ensures { λ r. ⌜ Decides r (AtMost (now (m .entry)) from to 0) ⌝ }
+{
+    let at = (from + (BLOCK - 1)) / BLOCK * BLOCK;
+    if to < at {
+        return greatest(m, from, to) == 0;
+    }
+    let half = (to - at) / (BLOCK * 4) * (BLOCK * 2);
+    let rest = at + half + half;
+    are_zero_halves(m, at, half) && greatest(m, from, at) == 0 && greatest(m, rest, to) == 0
 }
 
 // Whether the scratch is long enough.

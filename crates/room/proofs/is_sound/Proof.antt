@@ -11,6 +11,7 @@ use Rattle.room.proofs.is_sound.Tie as tie
 use Rattle.room.proofs.is_sound.Reads as reads
 use Rattle.room.proofs.is_sound.Lts as lts
 use Rattle.room.proofs.are_below.Reads as below-reads
+use Rattle.slices.proofs.are_zero.Reads as zero-reads
 
 returns : tie.Need-returns
 returns c = fails (λ s. omega (arith, s .long))
@@ -68,12 +69,14 @@ are-below-requires-4 c κs =
     let d = c .before .before .before .before .before .before in
     omega (arith, mul-le-mul (d .before .before .if3 .left) (d .if5 .left))
 
-are-below-requires-5 : tie.Need-are-below-requires-5
-are-below-requires-5 c κs = search needs
+are-zero-requires : tie.Need-are-zero-requires
+are-zero-requires c κs =
+    let d = c .before .before .before .before .before .before in
+    (omega (arith, mul-le-mul (d .before .before .if3 .left) (d .if5 .left)), search needs)
 
 -- the four tests before the last
 judged :
-    (d : lts.Joined8 (below-reads.Asked, below-reads.Learnt) reads.Pre reads.Post)
+    (d : lts.Joined8 (below-reads.Asked, below-reads.Learnt, zero-reads.Asked, zero-reads.Learnt) reads.Pre reads.Post)
     → Decides (d .if8 .if9) (Judged (d .before .before .before .before .before .before .before .before .before .before .before .before .before .args .room .now))
 judged d =
     let m = d .before .before .before .before .before .before .before .before .before .before .before .before .before .args .room .now in
@@ -88,7 +91,7 @@ returns-6 c =
     let h = c .before .before .before .before .before .before .before in
     sound-last (h .before .before .before .before .before .before .if1 .left)
     (h .before .before .before .if2 .left, h .before .before .if3 .left, h .before .if4 .left, h .if5 .left)
-    (judged (c .before .before) .yes (c .before .if9 .taken)) (c .are-below5 .ensures)
+    (judged (c .before .before) .yes (c .before .if9 .taken)) (c .are-zero .ensures)
 
 returns-7 : tie.Need-returns-7
 returns-7 c = sound-not (c .if9 .left) (judged (c .before))
@@ -115,6 +118,6 @@ is-sound-spec =
     are-below-requires-3
     shared-slice-read-are-below-2
     are-below-requires-4
-    are-below-requires-5
+    are-zero-requires
     returns-6
     returns-7)
