@@ -52,6 +52,10 @@ pub record Tried (R : ℕ → ℕ → Type 0) (old : List ℕ) (h q p : ℕ) : T
   pub is : 0 < p → Within R old h q p
   pub none : (j : ℕ) → p < j → Within R old h q j → R j q → ⊥
 
+-- p is h, which begins the old part, or of its chain, and neither h nor one of the chain above p agrees with q
+abbrev pub Facing : (ℕ → ℕ → Type 0) → List ℕ → ℕ → ℕ → ℕ → Type 0
+Facing R old h q p = (p ≡ h) ⊎ ((0 < p) × Tried R old h q p × (R h q → ⊥))
+
 module _ (next : ℕ → ℕ → ℕ) (old : List ℕ) (q : ℕ) (f : First (Alike old) q (getD old q 0)) where
   abbrev R : ℕ → ℕ → Type 0
   R = Agree next old
@@ -67,7 +71,7 @@ module _ (next : ℕ → ℕ → ℕ) (old : List ℕ) (q : ℕ) (f : First (Ali
   place-old l = record { low = omega arith; like = agree-itself next old q; least = λ j k a. f .least j (omega arith) (a .here) }
 
   -- the state that begins the old part agrees
-  pub place-head : R h q → First R q h
+  place-head : R h q → First R q h
   place-head e = found h (f .low) (record { low = omega arith; like = agree-itself next old h; least = λ j k a. f .least j k (a .here ∙ f .like) }) e
 
   -- so it is too where q begins its old part itself
@@ -78,23 +82,23 @@ module _ (next : ℕ → ℕ → ℕ) (old : List ℕ) (q : ℕ) (f : First (Ali
   ]
 
   -- a state of the chain agrees
-  pub place-found : (p : ℕ) → Within R old h q p → R p q → First R q p
+  place-found : (p : ℕ) → Within R old h q p → R p q → First R q p
   place-found p w e = found p (omega (arith, w .below)) (w .begins) e
 
   module _ (link : List ℕ) (c : Chain R old link q) where
     -- all of the chain is to be compared
-    pub tried-first : h < q → Tried R old h q (getD link h 0)
+    tried-first : h < q → Tried R old h q (getD link h 0)
     tried-first l = let d = c .top h l (f .like) in record { is = d .is; none = λ j k w a. d .none j k w }
 
     before : (p : ℕ) → Within R old h q p → Last R old h p (getD link p 0)
     before p w = rw (w .part) at (c .down p (w .below) (w .begins) (omega (arith, w .above, w .part)))
 
     -- the next of the chain is below
-    pub tried-less : (p : ℕ) → Within R old h q p → getD link p 0 < p
+    tried-less : (p : ℕ) → Within R old h q p → getD link p 0 < p
     tried-less p w = chain-low R old h p (getD link p 0) (w .above) (before p w .is)
 
     -- one state of the chain does not agree
-    pub tried-more : (p : ℕ) → Tried R old h q p → 0 < p → (R p q → ⊥) → Tried R old h q (getD link p 0)
+    tried-more : (p : ℕ) → Tried R old h q p → 0 < p → (R p q → ⊥) → Tried R old h q (getD link p 0)
     tried-more p t l n =
         let w = t .is l in
         let d = before p w in
@@ -126,27 +130,23 @@ module _ (next : ℕ → ℕ → ℕ) (old : List ℕ) (q : ℕ) (f : First (Ali
             ]
 
     module _ (l : h < q) where
-      -- p begins the old part, or is of its chain, and neither the one that begins it nor one of the chain above p agrees with q
-      abbrev pub Facing : ℕ → Type 0
-      Facing p = (p ≡ h) ⊎ ((0 < p) × Tried R old h q p × (R h q → ⊥))
-
       -- p is of the part of q, and below it
-      pub facing-in : (p : ℕ) → Facing p → (p < q) × Alike old p q
+      pub facing-in : (p : ℕ) → Facing R old h q p → (p < q) × Alike old p q
       facing-in p (inl e) = rw e (l, f .like)
       facing-in p (inr (k, t, n)) = (t .is k .below, t .is k .part)
 
       -- it agrees
-      pub facing-found : (p : ℕ) → Facing p → R p q → First R q p
+      pub facing-found : (p : ℕ) → Facing R old h q p → R p q → First R q p
       facing-found p (inl e) a = rw e (place-head (rw e at a))
       facing-found p (inr (k, t, n)) a = place-found p (t .is k) a
 
       -- it does not
-      pub facing-more : (p : ℕ) → Facing p → (R p q → ⊥) → Tried R old h q (getD link p 0) × (R h q → ⊥)
+      pub facing-more : (p : ℕ) → Facing R old h q p → (R p q → ⊥) → Tried R old h q (getD link p 0) × (R h q → ⊥)
       facing-more p (inl e) n = rw e (tried-first l, rw e at n)
       facing-more p (inr (k, t, m)) n = (tried-more p t k n, m)
 
       -- the chain falls; the state that begins the old part comes before all of it
-      pub facing-less : (p : ℕ) → Facing p → Within R old h q (getD link p 0) → rank h q (getD link p 0) < rank h q p
+      pub facing-less : (p : ℕ) → Facing R old h q p → Within R old h q (getD link p 0) → rank h q (getD link p 0) < rank h q p
       facing-less p (inl e) w = rw (below h (getD link p 0) .full (w .above), not-below h p (omega arith)) (w .below)
       facing-less p (inr (k, t, n)) w =
           let v = t .is k in

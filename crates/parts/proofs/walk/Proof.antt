@@ -1,18 +1,18 @@
 -- Neither the state that begins the old part, where that is not p itself, nor any of the chain that was passed agrees with q; the chain falls.
 use mathlib.Core.Path.{_≡_, refl}
-use mathlib.Core.Logic.{_⊎_, inl, inr}
+use mathlib.Core.Logic.{inl, inr}
 use Prim.Native.Nat.{_<_}
 use native.Mathlib.Omega.{arith}
 use borrow.Author.Tests.{not-true, not-false}
 use lib.ListN.{getD}
 use Rattle.sides.specs.Side.{both}
 use Rattle.parts.specs.Parts.{Agree}
-use Rattle.parts.proofs.Passes.{rank, Tried, chain-low, facing-in, facing-found, facing-more, facing-less, place-none}
+use Rattle.parts.proofs.Passes.{rank, Tried, Facing, chain-low, facing-in, facing-found, facing-more, facing-less, place-none}
 use Rattle.parts.proofs.walk.Statement.{statement}
 use Rattle.parts.proofs.walk.Tie as tie
 
 abbrev Inv-loop : tie.InvT-loop
-Inv-loop a b left right count few rows part link q h p₀ p = (p ≡ getD part q 0) ⊎ ((0 < p) × Tried (Agree ((both a b) .next) part) part (getD part q 0) q p × (Agree ((both a b) .next) part (getD part q 0) q → ⊥))
+Inv-loop a b left right count few rows part link q h p₀ p = Facing (Agree ((both a b) .next) part) part (getD part q 0) q p
 
 abbrev μ-loop : tie.MeasureT-loop
 μ-loop a b left right count few rows part link q h p₀ p = rank (getD part q 0) q p
