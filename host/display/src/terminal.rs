@@ -112,11 +112,12 @@ impl Terminal {
         loop {
             match self.events.recv_timeout(AT_ONCE) {
                 Ok(Event::Bytes(more)) => bytes.extend(more),
+                // A new size is seen to after the bytes, and does not part them.
                 Ok(other) => self.next = Some(other),
                 Err(RecvTimeoutError::Disconnected) => self.next = Some(Event::End),
                 Err(RecvTimeoutError::Timeout) => return Event::Bytes(bytes),
             }
-            if self.next.is_some() {
+            if matches!(self.next, Some(Event::Signal(_) | Event::End)) {
                 return Event::Bytes(bytes);
             }
         }

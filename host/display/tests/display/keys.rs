@@ -184,7 +184,12 @@ fn what_comes_at_once_behind_a_refused_key_is_not_tried() {
     let moves = "it moves nothing: fields are closed in their order, by Enter";
     let none = String::new;
     // What is sent; then the text of the field, and the message.
-    let rows: [(&[u8], &str, String); 7] = [
+    let string = || at_once("a terminal's string", 1, 2, kind);
+    let rows: [(&[u8], &str, String); 10] = [
+        // Strings that end in two bytes, and a byte of Latin-1 before an arrow.
+        (b"\x1BP1$rA\x1B\\", "", string()),
+        (b"\x1B]0;A\x1B\\", "", string()),
+        (b"\xE9\x1B[A", "", at_once("byte 0xE9", 1, 2, kind)),
         (
             b"0123 4567 89AB CDEF",
             "0123",
@@ -204,7 +209,7 @@ fn what_comes_at_once_behind_a_refused_key_is_not_tried() {
         assert_eq!(shown(&display, "component"), wanted, "{bytes:02X?}");
     }
     // The refusals since the field was opened stay on the screen.
-    let hint = "  component: 16 hex digits (4 keys refused)";
+    let hint = "  component: 16 hex digits (7 keys refused)";
     assert!(
         display.rows().iter().any(|row| row == hint),
         "{:#?}",

@@ -41,7 +41,11 @@ fn ctrl_c_asks_once_if_something_was_entered() {
 
 #[test]
 fn what_is_typed_ahead_is_not_for_the_form() {
-    let mut display = Display::run(program(&[&form("remark")]), USUAL, None);
+    let display = program(&[&form("remark")]);
+    let mut late = Command::new("sh");
+    late.args(["-c", "sleep 0.5; exec \"$0\" \"$@\""]);
+    late.arg(display.get_program()).args(display.get_args());
+    let mut display = Display::run(late, USUAL, None);
     display.send(b"0123\r4567");
     display.drawn();
     assert_eq!(shown(&display, "digits").0, "digits");

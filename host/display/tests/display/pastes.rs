@@ -93,7 +93,8 @@ fn a_paste_may_come_in_pieces_and_be_long() {
         assert_eq!(shown(&display, "component"), wanted, "{piece:02X?}");
     }
     display.key(b"\r");
-    display.key(&paste(&[b'0'; 3_000]));
+    display.send(&paste(&[b'0'; 3_000]));
+    display.until(|screen| screen.contents().contains("of 3000"));
     let reason = "a field has at most 128 bytes";
     let wanted = ("*".repeat(59), refused("'0'", 129, 3_000, reason));
     assert_eq!(shown(&display, "secret"), wanted);
