@@ -8,16 +8,16 @@ use Rattle.alike.proofs.main.Statement.{statement}
 use Rattle.alike.proofs.main.Tie as tie
 
 array-share-prefix-left : tie.Need-array-share-prefix-left
-array-share-prefix-left c = omega (arith, lines-short (c .before .before .take-lines .ensures))
+array-share-prefix-left c = omega (arith, lines-short (c .before .before .before .take-lines .ensures .0))
 
 slice-aggregate-report : tie.Need-slice-aggregate-report
-slice-aggregate-report c = sym (length-take-le _ _ (omega (arith, lines-short (c .before .before .before .take-lines .ensures), c .before .before .before .take-lines .ensures .left-long)))
+slice-aggregate-report c = sym (length-take-le _ _ (omega (arith, lines-short (c .before .before .before .before .take-lines .ensures .0), c .before .before .before .before .take-lines .ensures .0 .left-long)))
 
 array-share-prefix-right : tie.Need-array-share-prefix-right
-array-share-prefix-right c = omega (arith, lines-short (c .before .before .before .take-lines .ensures))
+array-share-prefix-right c = omega (arith, lines-short (c .before .before .before .before .take-lines .ensures .0))
 
 slice-aggregate-report-2 : tie.Need-slice-aggregate-report-2
-slice-aggregate-report-2 c = sym (length-take-le _ _ (omega (arith, lines-short (c .before .before .before .before .take-lines .ensures), c .before .before .before .before .take-lines .ensures .right-long)))
+slice-aggregate-report-2 c = sym (length-take-le _ _ (omega (arith, lines-short (c .before .before .before .before .before .take-lines .ensures .0), c .before .before .before .before .before .take-lines .ensures .0 .right-long)))
 
 slice-aggregate-write-all : tie.Need-slice-aggregate-write-all
 slice-aggregate-write-all c = sym (length-take-le _ _ (reports-fit (c .before .before .report .ensures .0)))
