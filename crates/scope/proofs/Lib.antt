@@ -45,6 +45,8 @@ pub mod Match
 pub mod Compare
 pub mod Pack
 pub mod Unpack
+-- The three demands, on the contracts
+pub mod Demands
 -- The samples
 pub mod Reading
 pub mod Table

@@ -3,7 +3,7 @@
 --   same-exact: machines are equal exactly when no string separates them
 --   equal-by: machines whose starts are together where nothing splits are equal
 --   word-within: the separating string has at most as many bytes as there are rounds
---   Spelled, spelled-more, spelled-separation: a string as it is spelled, byte by byte, and that it separates
+--   Spelled, spelled-more, spell, spelled-separation: a string as it is spelled, byte by byte; it can be, and it separates
 --   apart-separation, shortest: machines told apart after r rounds, or by some string, have a shortest separating string, first in the order of bytes
 --   decided: two machines are equal or have such a string
 use Prim.Native.Nat.{ℕ, zero, suc, _≤_, _<_}
@@ -47,7 +47,7 @@ spelled-more M {d} {p} {q} {b} {w} h lower s = record { bytes = (h, s .bytes); l
     first (suc i) c v l k e g = s .first i c v (omega arith) k (omega arith) (g .1)
 
 -- where d is the first round after which p and q are not together, d bytes are spelled
-spell : (M : Machine) (d p q : ℕ) → (Together M d p q → ⊥) → ((k : ℕ) → k < d → Together M k p q) → (w : List ℕ) × Spelled M d p q w
+pub spell : (M : Machine) (d p q : ℕ) → (Together M d p q → ⊥) → ((k : ℕ) → k < d → Together M k p q) → (w : List ℕ) × Spelled M d p q w
 spell M zero p q f h = ([], record { bytes = tt; long = refl; told = f; first = λ i c v l. absurd (omega arith) })
 spell M (suc d) p q f h = elim (first-not (λ b. together-either M d (M .next p b) (M .next q b)) byteValues) [
   | inl a ↦ absurd (f (h d (omega arith), a))

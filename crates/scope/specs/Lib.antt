@@ -29,6 +29,8 @@ pub mod Compare
 pub mod Form
 pub mod Pack
 pub mod Unpack
+-- The three demands, on the contracts
+pub mod Demands
 -- The program's lines, and the sample patterns
 pub mod Lines
 pub mod Samples
