@@ -1,25 +1,71 @@
 -- The three demands hold: each is put together from the theorems on its contract.
+--   demand2: compiling, packing and unpacking
 --   demand3: comparing
 use Prim.Native.Nat.{ℕ, suc, _+_, _-_, _<_, _≤_}
 use mathlib.Core.Path.{_≡_, refl, sym, _∙_}
 use mathlib.Core.Bool.{Bool-discrete}
-use mathlib.Core.Logic.{_⊎_, inl, inr}
+use mathlib.Core.Logic.{_⊎_, inl, inr, _↔_}
 use mathlib.Core.List.{List}
 use native.Mathlib.Omega.{arith}
 use lib.ListN.{length, take, getD}
-use lib.Seq.{length-take-le, getD-take, ext-getD}
+use lib.Seq.{length-take-le, getD-take, ext-getD, take-length}
+use Rattle.scope.specs.Answers.{DONE}
+use Rattle.scope.specs.Form.{formByte, FormOf}
 use Rattle.scope.specs.Machine.{Machine, run, Same, Closed}
 use Rattle.scope.specs.Room.{machine, Sound}
 use Rattle.scope.specs.Rounds.{aside, Rounds}
-use Rattle.scope.specs.Buffers.{Written}
+use Rattle.scope.specs.Buffers.{Written, Lent}
+use Rattle.scope.specs.Compile.{Compiles, compiled}
 use Rattle.scope.specs.Compare.{CompareLent, Compares, no-room, no-form, same, separated}
-use Rattle.scope.specs.Demands.{StateOf, of-left, of-right, Tells, Suffices, Comparison, Demand3}
+use Rattle.scope.specs.Pack.{Packs}
+use Rattle.scope.specs.Unpack.{Unpacks}
+use Rattle.scope.specs.Demands.{Compilation, Packing, Demand2, StateOf, of-left, of-right, Tells, Suffices, Comparison, Demand3}
 use Rattle.scope.proofs.Tests.{split}
 use Rattle.scope.proofs.Chain.{first-not}
 use Rattle.scope.proofs.Run.{sound-closed}
 use Rattle.scope.proofs.Rounds.{together-either, rests-same, rests-enough, Enough}
 use Rattle.scope.proofs.Aside.{aside-closed, left-run, right-run, rounds-two}
+use Rattle.scope.proofs.Tree.{one-tree}
+use Rattle.scope.proofs.Compile.{compiled-least}
+use Rattle.scope.proofs.Unpack.{unpack-pack, pack-unpack}
 use Rattle.scope.proofs.Separate.{same-exact, word-within, spell}
+
+-- ---- the second
+
+-- what a compiled room is
+compilation : {text room room′ bytes bytes′ words words′ : List ℕ} {i : ℕ} → Compiles text room room′ bytes bytes′ words words′ DONE i → Compilation text room′
+compilation {text} (compiled {t} y s m n k e h f) =
+    let p = s .pattern in
+    let x = compiled y s m n k e h f in
+    record { tree = t; reads = p; only = λ u q. one-tree text u t q p; exact = e; least = compiled-least x t p }
+
+-- the form of a room is what packing it over itself leaves
+form-written : (m f : List ℕ) → FormOf m f → Written (length f) (formByte m) f f
+form-written m f a = record { size = refl; inside = λ i h. a .bytes i (omega (arith, a .size)); outside = λ i h. refl }
+
+-- what is taken is what packing writes
+taken : {form room room′ bytes bytes′ words words′ : List ℕ} {i : ℕ} → Lent room bytes words → Unpacks form room room′ bytes bytes′ words words′ i
+    → (i ≡ DONE) ↔ Packing form
+taken {form} {room} {room′} {bytes} {bytes′} {words} {words′} {i} l u = (λ e. out (rw e at u), into)
+  where
+    out : Unpacks form room room′ bytes bytes′ words words′ DONE → Packing form
+    out (Unpacks.unpacked l n f k t) = record {
+      room = room′;
+      out = form;
+      out′ = form;
+      bytes = bytes;
+      bytes′ = bytes′;
+      words = words;
+      words′ = words′;
+      packs = Packs.packed (record { room-long = n .sound .long; scratch = l .scratch }) n (f .size) (omega arith) (form-written room′ form f) t;
+      written = take-length form;
+    }
+
+    into : Packing form → i ≡ DONE
+    into p = let v : Unpacks (take (length form) (p .out′)) room room′ bytes bytes′ words words′ i = rw (p .written) u in unpack-pack (p .packs) l v .0
+
+pub demand2 : Demand2
+demand2 = record { compiles = compilation; unpacks = unpack-pack; packs = pack-unpack; takes = taken }
 
 -- ---- the third
 

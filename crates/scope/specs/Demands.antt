@@ -1,5 +1,7 @@
 -- The three demands, each as one statement on the contracts. That every operation takes every input and ends is the toolchain's: a function is proved to end,
 -- and none of the operations has a `requires`.
+--   Compilation: what a compiled room is
+--   Packing f: packing writes the bytes f
 --   StateOf M N K q: q is a state of K, which is M or N
 --   Tells K p L q w: w is accepted from one of the states p of K and q of L, and refused from the other
 --   Suffices M N r: any two states of M and N that some string tells apart are told apart by one of at most r bytes
@@ -8,13 +10,58 @@ use Prim.Native.Nat.{ℕ, _+_, _<_, _≤_}
 use mathlib.Core.Path.{_≡_}
 use mathlib.Core.Logic.{_↔_}
 use mathlib.Core.List.{List}
-use lib.ListN.{length, take}
-use Rattle.scope.specs.Answers.{SAME, SEPARATED}
+use lib.ListN.{length, take, getD}
+use Rattle.scope.specs.Answers.{DONE, SAME, SEPARATED}
+use Rattle.scope.specs.Limits.{roomBytes}
 use Rattle.scope.specs.Bytes.{Bytes}
-use Rattle.scope.specs.Machine.{Machine, run}
+use Rattle.scope.specs.Re.{Words}
+use Rattle.scope.specs.Tree.{Tree, expr}
+use Rattle.scope.specs.Judge.{Pattern}
+use Rattle.scope.specs.Machine.{Machine, run, Recognises, Closed}
 use Rattle.scope.specs.Room.{statesOf, machine, Sound}
 use Rattle.scope.specs.Separate.{Separates, Separation}
+use Rattle.scope.specs.Buffers.{Lent}
+use Rattle.scope.specs.Compile.{Compiles}
 use Rattle.scope.specs.Compare.{CompareLent, Compares}
+use Rattle.scope.specs.Pack.{Packs}
+use Rattle.scope.specs.Unpack.{Unpacks}
+
+-- ---- the second
+
+pub record Compilation (text room′ : List ℕ) : Type 0 where
+  -- the expression is that of the text's tree, of which there is one
+  pub tree : Tree
+  pub reads : Pattern text tree
+  pub only : (t : Tree) → Pattern text t → t ≡ tree
+  -- "accepts exactly the strings that Kleene's definition gives the expression"
+  pub exact : Recognises (machine room′) (Words (expr tree))
+  -- "no complete machine for them has fewer states"
+  pub least : (N : Machine) → Closed N → Recognises N (Words (expr tree)) → statesOf room′ ≤ N .states
+
+-- what packing writes, of some room into some output
+pub record Packing (f : List ℕ) : Type 0 where
+  pub room : List ℕ
+  pub out : List ℕ
+  pub out′ : List ℕ
+  pub bytes : List ℕ
+  pub bytes′ : List ℕ
+  pub words : List ℕ
+  pub words′ : List ℕ
+  pub packs : Packs room out out′ bytes bytes′ words words′ DONE (length f)
+  pub written : take (length f) out′ ≡ f
+
+pub record Demand2 : Type 0 where
+  -- "A compiled machine accepts exactly the strings that Kleene's definition gives the expression, and no complete machine for them has fewer states."
+  pub compiles : {text room room′ bytes bytes′ words words′ : List ℕ} {i : ℕ} → Compiles text room room′ bytes bytes′ words words′ DONE i → Compilation text room′
+  -- "Packing and unpacking undo each other": what was packed is unpacked to the room's own bytes
+  pub unpacks : {room out out′ a a′ d d′ other other′ bytes bytes′ words words′ : List ℕ} {n i : ℕ} → Packs room out out′ a a′ d d′ DONE n → Lent other bytes words
+      → Unpacks (take n out′) other other′ bytes bytes′ words words′ i → (i ≡ DONE) × ((j : ℕ) → j < roomBytes → getD room j 0 ≡ getD other′ j 0)
+  -- and what was unpacked is packed to the same form
+  pub packs : {form room room′ a a′ d d′ out out′ bytes bytes′ words words′ : List ℕ} {i n : ℕ} → Unpacks form room room′ a a′ d d′ DONE → Lent room′ bytes words
+      → length form ≤ length out → Packs room′ out out′ bytes bytes′ words words′ i n → (i ≡ DONE) × (n ≡ length form) × (take n out′ ≡ form)
+  -- "unpacking takes nothing that packing wouldn't write", and takes all that it writes
+  pub takes : {form room room′ bytes bytes′ words words′ : List ℕ} {i : ℕ} → Lent room bytes words → Unpacks form room room′ bytes bytes′ words words′ i
+      → (i ≡ DONE) ↔ Packing form
 
 -- ---- the third
 
