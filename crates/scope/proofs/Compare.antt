@@ -2,6 +2,7 @@
 -- be a shortest separation that begins as the other, with a smaller byte.
 --   rounds-one, separation-one: rounds are one, and so is the string
 --   equal-separates: machines for the same strings have none
+--   unsound: where one of two is not so, not both are
 --   determined: two results of one call are equal, with every byte of every buffer
 use Prim.Native.Nat.{ℕ, zero, suc, _<_, _≤_}
 use mathlib.Core.Path.{_≡_, refl, sym, ap, _∙_}
@@ -48,7 +49,8 @@ module _ (M N : Machine) where
   pub equal-separates : (w : List ℕ) → Equal M N → Separation M N w → ⊥
   equal-separates w e s = s .separates .differ (e w (s .separates .bytes))
 
-unsound : {A B : Type 0} → ((A → ⊥) ⊎ (B → ⊥)) → A → B → ⊥
+-- where one of two is not so, not both are
+pub unsound : {A B : Type 0} → ((A → ⊥) ⊎ (B → ⊥)) → A → B → ⊥
 unsound (inl f) a b = f a
 unsound (inr f) a b = f b
 

@@ -2,6 +2,7 @@
 -- have one constructor, whose records fix each byte. A text has one tree, and two canonical rooms for the same strings have the same bytes.
 --   classes-apart, sets-apart: over a limit and within it exclude each other
 --   one-language: two machines for one language accept the same strings
+--   judgements, past1 .. past7, answer-one: the judgements in their order, what passes each, and that the answer is theirs
 --   determined: two results of one call are equal, with every byte of every buffer
 --   compiled-exact, compiled-canonical: after Done the room accepts exactly the words of the text's tree, and is canonical
 --   compiled-least: no complete machine for them has fewer states
@@ -46,41 +47,41 @@ pub one-language : (M N : Machine) (L : List ℕ → Type 0) → Recognises M L 
 one-language M N L a b w g = same-test _ _ (λ e. b w g .1 (a w g .0 e)) (λ e. a w g .1 (b w g .0 e))
 
 -- number and place
-abbrev Answer : Type 0
+abbrev pub Answer : Type 0
 Answer = ℕ × ℕ
 
 module _ (text room bytes words : List ℕ) where
   -- ---- the judgements in their order
 
   -- a judgement of the tree, with a place; of the tree alone
-  abbrev With : (Tree → ℕ → Type 0) → ℕ → Answer → Type 0
+  abbrev pub With : (Tree → ℕ → Type 0) → ℕ → Answer → Type 0
   With P n r = (i : ℕ) × (t : Tree) × (r ≡ (n, i)) × Pattern text t × P t i
 
-  abbrev Whole : (Tree → Type 0) → ℕ → Answer → Type 0
+  abbrev pub Whole : (Tree → Type 0) → ℕ → Answer → Type 0
   Whole P n r = (t : Tree) × (r ≡ (n, 0)) × Pattern text t × P t
 
-  abbrev from8 : List (Answer → Type 0)
+  abbrev pub from8 : List (Answer → Type 0)
   from8 = Whole (λ t. ManySets (expr t)) STATES ∷ (λ r. r ≡ (DONE, 0)) ∷ []
 
-  abbrev from7 : List (Answer → Type 0)
+  abbrev pub from7 : List (Answer → Type 0)
   from7 = Whole (λ t. ManyClasses (expr t)) CLASSES ∷ from8
 
-  abbrev from6 : List (Answer → Type 0)
+  abbrev pub from6 : List (Answer → Type 0)
   from6 = With PositionAt POSITIONS ∷ from7
 
-  abbrev from5 : List (Answer → Type 0)
+  abbrev pub from5 : List (Answer → Type 0)
   from5 = With DepthAt DEPTH ∷ from6
 
-  abbrev from4 : List (Answer → Type 0)
+  abbrev pub from4 : List (Answer → Type 0)
   from4 = With RangeAt RANGE ∷ from5
 
-  abbrev from3 : List (Answer → Type 0)
+  abbrev pub from3 : List (Answer → Type 0)
   from3 = (λ r. (i : ℕ) × (r ≡ (SYNTAX, i)) × SyntaxAt text i) ∷ from4
 
-  abbrev from2 : List (Answer → Type 0)
+  abbrev pub from2 : List (Answer → Type 0)
   from2 = (λ r. (r ≡ (LONG, 0)) × (patternLimit < length text)) ∷ from3
 
-  abbrev judgements : List (Answer → Type 0)
+  abbrev pub judgements : List (Answer → Type 0)
   judgements = (λ r. (r ≡ (ROOM, 0)) × (Lent room bytes words → ⊥)) ∷ from2
 
   -- ---- each has one answer
@@ -106,25 +107,25 @@ module _ (text room bytes words : List ℕ) where
   past-place l n C t p h x (i, u, e, q, b) = let k : length (l u) ≤ n = subst (λ (v : Tree). length (l v) ≤ n) (one-tree text t u p q) h in omega (arith, b .more)
 
   module _ {r : Answer} where
-    past1 : Lent room bytes words → Judged from2 r → Judged judgements r
+    pub past1 : Lent room bytes words → Judged from2 r → Judged judgements r
     past1 l j = inr (λ x p. p .1 l, j)
 
-    past2 : Fits text room bytes words → Judged from3 r → Judged judgements r
+    pub past2 : Fits text room bytes words → Judged from3 r → Judged judgements r
     past2 y j = past1 (y .lent) (inr (λ x p. omega (arith, p .1, y .short), j))
 
-    past3 : {t : Tree} → Fits text room bytes words → Pattern text t → Judged from4 r → Judged judgements r
+    pub past3 : {t : Tree} → Fits text room bytes words → Pattern text t → Judged from4 r → Judged judgements r
     past3 {t} y p j = past2 y (inr (λ x q. q .2 .illegal (record { tree = t; reads = p }), j))
 
-    past4 : {t : Tree} → Fits text room bytes words → Pattern text t → Ordered t → Judged from5 r → Judged judgements r
+    pub past4 : {t : Tree} → Fits text room bytes words → Pattern text t → Ordered t → Judged from5 r → Judged judgements r
     past4 {t} y p o j = past3 y p (inr (past-place falling 0 RANGE t p o, j))
 
-    past5 : {t : Tree} → Fits text room bytes words → Pattern text t → Ordered t → Shallow t → Judged from6 r → Judged judgements r
+    pub past5 : {t : Tree} → Fits text room bytes words → Pattern text t → Ordered t → Shallow t → Judged from6 r → Judged judgements r
     past5 {t} y p o d j = past4 y p o (inr (past-place (opened nestLimit) 0 DEPTH t p d, j))
 
-    past6 : {t : Tree} → Fits text room bytes words → Sized text t → Judged from7 r → Judged judgements r
+    pub past6 : {t : Tree} → Fits text room bytes words → Sized text t → Judged from7 r → Judged judgements r
     past6 {t} y z j = past5 y (z .pattern) (z .ordered) (z .shallow) (inr (past-place places positionLimit POSITIONS t (z .pattern) (z .brief), j))
 
-    past7 : {t : Tree} → Fits text room bytes words → Sized text t → FewClasses (expr t) → Judged from8 r → Judged judgements r
+    pub past7 : {t : Tree} → Fits text room bytes words → Sized text t → FewClasses (expr t) → Judged from8 r → Judged judgements r
     past7 {t} y z c j = past6 y z (inr (classes, j))
       where
         classes : (x : Answer) → Whole (λ t. ManyClasses (expr t)) CLASSES x → ⊥
@@ -146,6 +147,12 @@ module _ (text room bytes words : List ℕ) where
   chain (many-classes {t} y z m f) = past6 y z (inl (t, refl, z .pattern, m))
   chain (many-sets {t} y z c m f) = past7 y z c (inl (t, refl, z .pattern, m))
   chain (compiled y z c m k e h f) = past8 y z c m
+
+  -- an answer is the one that the judgements give
+  pub answer-one : {room′ bytes′ words′ : List ℕ} {n i m j : ℕ} → Compiles text room room′ bytes bytes′ words words′ n i → Judged judgements (m, j) → (n ≡ m) × (i ≡ j)
+  answer-one {n = n} {i} {m} {j} a d =
+      let e = judged-one judgements single (n, i) (m, j) (chain a) d in
+      (ap (λ (r : Answer). r .0) e, ap (λ (r : Answer). r .1) e)
 
 -- ---- one answer, one result
 
@@ -173,9 +180,7 @@ module _ {text room u v bytes b c words w x : List ℕ} where
 
   -- two results of one call: the numbers and places, the rooms, the scratch
   pub determined : {n m i j : ℕ} → Compiles text room u bytes b words w n i → Compiles text room v bytes c words x m j → (n ≡ m) × (i ≡ j) × Alike u v b c w x
-  determined {n} {m} {i} {j} a d =
-      let e = judged-one (judgements text room bytes words) (single text room bytes words) (n, i) (m, j) (chain text room bytes words a) (chain text room bytes words d) in
-      (ap (λ (r : Answer). r .0) e, ap (λ (r : Answer). r .1) e, after-one a (subst (λ (r : Answer). Compiles text room v bytes c words x (r .0) (r .1)) (sym e) d))
+  determined a d = let (e, f) = answer-one text room bytes words a (chain text room bytes words d) in (e, f, after-one a (rw (e, f) d))
 
 -- ---- what a compiled room is
 

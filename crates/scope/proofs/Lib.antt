@@ -46,6 +46,8 @@ pub mod Compare
 pub mod Pack
 pub mod Unpack
 -- The three demands, on the contracts
+pub mod Told
+pub mod Refusals
 pub mod Demands
 -- The samples
 pub mod Reading

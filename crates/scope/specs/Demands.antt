@@ -1,42 +1,41 @@
 -- The three demands, each as one statement on the contracts. That every operation takes every input and ends is the toolchain's: a function is proved to end,
 -- and none of the operations has a `requires`.
---   Compilation: what a compiled room is
 --   Packing f: packing writes the bytes f
+--   Refusal n: n is the number of a refusal
+--   Row n i m P: the answer, with the number n and the place i, has the number m exactly where P says so, with that place
+--   CompileRows, Rows, PackRows: when each refusal is given: of compiling; of operations that judge ROOM, then FORM; of packing
+--   Leaves: what a call leaves
+--   Compilation: what a compiled room is
 --   StateOf M N K q: q is a state of K, which is M or N
 --   Tells K p L q w: w is accepted from one of the states p of K and q of L, and refused from the other
 --   Suffices M N r: any two states of M and N that some string tells apart are told apart by one of at most r bytes
 --   Comparison: what comparing two sound rooms answers
 use Prim.Native.Nat.{ℕ, _+_, _<_, _≤_}
 use mathlib.Core.Path.{_≡_}
-use mathlib.Core.Logic.{_↔_}
+use mathlib.Core.Logic.{_⊎_, _↔_}
 use mathlib.Core.List.{List}
 use lib.ListN.{length, take, getD}
-use Rattle.scope.specs.Answers.{DONE, SAME, SEPARATED}
-use Rattle.scope.specs.Limits.{roomBytes}
+use Rattle.scope.specs.Answers.{DONE, ROOM, LONG, SYNTAX, RANGE, DEPTH, POSITIONS, CLASSES, STATES, FORM, SAME, SEPARATED}
+use Rattle.scope.specs.Limits.{patternLimit, roomBytes}
 use Rattle.scope.specs.Bytes.{Bytes}
 use Rattle.scope.specs.Re.{Words}
 use Rattle.scope.specs.Tree.{Tree, expr}
-use Rattle.scope.specs.Judge.{Pattern}
+use Rattle.scope.specs.Judge.{Pattern, SyntaxAt, RangeAt, Ordered, DepthAt, Shallow, PositionAt}
+use Rattle.scope.specs.Reached.{ManyClasses, FewClasses, ManySets}
 use Rattle.scope.specs.Machine.{Machine, run, Recognises, Closed}
 use Rattle.scope.specs.Room.{statesOf, machine, Sound}
+use Rattle.scope.specs.Canonical.{Canonical}
+use Rattle.scope.specs.Form.{formLength}
 use Rattle.scope.specs.Separate.{Separates, Separation}
-use Rattle.scope.specs.Buffers.{Lent}
-use Rattle.scope.specs.Compile.{Compiles}
+use Rattle.scope.specs.Buffers.{Lent, Cleared, Untouched}
+use Rattle.scope.specs.Compile.{Fits, Sized, Compiles}
+use Rattle.scope.specs.Minimise.{MinimiseLent, Minimises}
+use Rattle.scope.specs.Match.{Matches}
 use Rattle.scope.specs.Compare.{CompareLent, Compares}
 use Rattle.scope.specs.Pack.{Packs}
 use Rattle.scope.specs.Unpack.{Unpacks}
 
--- ---- the second
-
-pub record Compilation (text room′ : List ℕ) : Type 0 where
-  -- the expression is that of the text's tree, of which there is one
-  pub tree : Tree
-  pub reads : Pattern text tree
-  pub only : (t : Tree) → Pattern text t → t ≡ tree
-  -- "accepts exactly the strings that Kleene's definition gives the expression"
-  pub exact : Recognises (machine room′) (Words (expr tree))
-  -- "no complete machine for them has fewer states"
-  pub least : (N : Machine) → Closed N → Recognises N (Words (expr tree)) → statesOf room′ ≤ N .states
+-- ---- the first
 
 -- what packing writes, of some room into some output
 pub record Packing (f : List ℕ) : Type 0 where
@@ -49,6 +48,70 @@ pub record Packing (f : List ℕ) : Type 0 where
   pub words′ : List ℕ
   pub packs : Packs room out out′ bytes bytes′ words words′ DONE (length f)
   pub written : take (length f) out′ ≡ f
+
+abbrev pub Refusal : ℕ → Type 0
+Refusal n = (ROOM ≤ n) × (n ≤ FORM)
+
+abbrev pub Row : ℕ → ℕ → ℕ → (ℕ → Type 0) → Type 0
+Row n i m P = (p : ℕ) → ((n ≡ m) × (i ≡ p)) ↔ P p
+
+-- "Given exactly when", "Place", "in order of judgement": each row has the conditions of those before it that were passed
+pub record CompileRows (text room bytes words : List ℕ) (n i : ℕ) : Type 0 where
+  pub at-room : Row n i ROOM (λ p. (p ≡ 0) × (Lent room bytes words → ⊥))
+  pub at-long : Row n i LONG (λ p. (p ≡ 0) × Lent room bytes words × (patternLimit < length text))
+  pub at-syntax : Row n i SYNTAX (λ p. Fits text room bytes words × SyntaxAt text p)
+  pub at-range : Row n i RANGE (λ p. Fits text room bytes words × ((t : Tree) × Pattern text t × RangeAt t p))
+  pub at-depth : Row n i DEPTH (λ p. Fits text room bytes words × ((t : Tree) × Pattern text t × Ordered t × DepthAt t p))
+  pub at-positions : Row n i POSITIONS (λ p. Fits text room bytes words × ((t : Tree) × Pattern text t × Ordered t × Shallow t × PositionAt t p))
+  pub at-classes : Row n i CLASSES (λ p. (p ≡ 0) × Fits text room bytes words × ((t : Tree) × Sized text t × ManyClasses (expr t)))
+  pub at-states : Row n i STATES (λ p. (p ≡ 0) × Fits text room bytes words × ((t : Tree) × Sized text t × FewClasses (expr t) × ManySets (expr t)))
+
+-- "judge 1, then 9": what is lent is not enough; or it is, and there is a fault
+pub record Rows (n : ℕ) (Enough Fault : Type 0) : Type 0 where
+  pub at-room : (n ≡ ROOM) ↔ (Enough → ⊥)
+  pub at-form : (n ≡ FORM) ↔ (Enough × Fault)
+
+-- "Packing judges 1, 9, then its output"
+pub record PackRows (room form bytes words : List ℕ) (n : ℕ) : Type 0 where
+  pub at-room : (n ≡ ROOM) ↔ ((Lent room bytes words → ⊥) ⊎ (Lent room bytes words × Canonical room × (length form < formLength room)))
+  pub at-form : (n ≡ FORM) ↔ (Lent room bytes words × (Canonical room → ⊥))
+
+-- the room or output that is written, and the scratch
+pub record Leaves (n : ℕ) (Enough : Type 0) (out out′ bytes bytes′ words words′ : List ℕ) : Type 0 where
+  -- "leaves machine rooms and output as they were"; a room that is only read can't be written to
+  pub kept : Refusal n → out′ ≡ out
+  -- "scratch is cleared", "on every return but a ROOM judged first"; "after that one it is unchanged"
+  pub cleared : Enough → Cleared bytes bytes′ words words′
+  pub untouched : (Enough → ⊥) → Untouched bytes bytes′ words words′
+
+-- "Each refusal is given exactly when document 01 says so, with its place, and leaves machine rooms and output as they were; scratch is cleared as stated there."
+pub record Demand1 : Type 0 where
+  pub compiles : {text room room′ bytes bytes′ words words′ : List ℕ} {n i : ℕ} → Compiles text room room′ bytes bytes′ words words′ n i
+      → CompileRows text room bytes words n i × Leaves n (Lent room bytes words) room room′ bytes bytes′ words words′
+  pub minimises : {from room room′ bytes bytes′ words words′ : List ℕ} {n : ℕ} → Minimises from room room′ bytes bytes′ words words′ n
+      → Rows n (MinimiseLent from room bytes words) (Sound from → ⊥) × Leaves n (MinimiseLent from room bytes words) room room′ bytes bytes′ words words′
+  -- no scratch is lent, and nothing is written
+  pub matches : {room text : List ℕ} {n i : ℕ} → Matches room text n i → Rows n (roomBytes ≤ length room) (Sound room → ⊥) × (Refusal n → i ≡ 0)
+  pub compares : {left right word word′ bytes bytes′ words words′ : List ℕ} {n i r : ℕ} → Compares left right word word′ bytes bytes′ words words′ n i r
+      → Rows n (CompareLent left right word bytes words) ((Sound left → ⊥) ⊎ (Sound right → ⊥))
+      × Leaves n (CompareLent left right word bytes words) word word′ bytes bytes′ words words′
+  pub packs : {room form form′ bytes bytes′ words words′ : List ℕ} {n i : ℕ} → Packs room form form′ bytes bytes′ words words′ n i
+      → PackRows room form bytes words n × Leaves n (Lent room bytes words) form form′ bytes bytes′ words words′
+  -- "for unpacking, bytes that packing can't write"
+  pub unpacks : {form room room′ bytes bytes′ words words′ : List ℕ} {n : ℕ} → Unpacks form room room′ bytes bytes′ words words′ n
+      → Rows n (Lent room bytes words) (Packing form → ⊥) × Leaves n (Lent room bytes words) room room′ bytes bytes′ words words′
+
+-- ---- the second
+
+pub record Compilation (text room′ : List ℕ) : Type 0 where
+  -- the expression is that of the text's tree, of which there is one
+  pub tree : Tree
+  pub reads : Pattern text tree
+  pub only : (t : Tree) → Pattern text t → t ≡ tree
+  -- "accepts exactly the strings that Kleene's definition gives the expression"
+  pub exact : Recognises (machine room′) (Words (expr tree))
+  -- "no complete machine for them has fewer states"
+  pub least : (N : Machine) → Closed N → Recognises N (Words (expr tree)) → statesOf room′ ≤ N .states
 
 pub record Demand2 : Type 0 where
   -- "A compiled machine accepts exactly the strings that Kleene's definition gives the expression, and no complete machine for them has fewer states."
