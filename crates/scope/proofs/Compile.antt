@@ -47,38 +47,38 @@ pub one-language : (M N : Machine) (L : List ℕ → Type 0) → Recognises M L 
 one-language M N L a b w g = same-test _ _ (λ e. b w g .1 (a w g .0 e)) (λ e. a w g .1 (b w g .0 e))
 
 -- number and place
-abbrev pub Answer : Type 0
+abbrev Answer : Type 0
 Answer = ℕ × ℕ
 
 module _ (text room bytes words : List ℕ) where
   -- ---- the judgements in their order
 
   -- a judgement of the tree, with a place; of the tree alone
-  abbrev pub With : (Tree → ℕ → Type 0) → ℕ → Answer → Type 0
+  abbrev With : (Tree → ℕ → Type 0) → ℕ → Answer → Type 0
   With P n r = (i : ℕ) × (t : Tree) × (r ≡ (n, i)) × Pattern text t × P t i
 
-  abbrev pub Whole : (Tree → Type 0) → ℕ → Answer → Type 0
+  abbrev Whole : (Tree → Type 0) → ℕ → Answer → Type 0
   Whole P n r = (t : Tree) × (r ≡ (n, 0)) × Pattern text t × P t
 
-  abbrev pub from8 : List (Answer → Type 0)
+  abbrev from8 : List (Answer → Type 0)
   from8 = Whole (λ t. ManySets (expr t)) STATES ∷ (λ r. r ≡ (DONE, 0)) ∷ []
 
-  abbrev pub from7 : List (Answer → Type 0)
+  abbrev from7 : List (Answer → Type 0)
   from7 = Whole (λ t. ManyClasses (expr t)) CLASSES ∷ from8
 
-  abbrev pub from6 : List (Answer → Type 0)
+  abbrev from6 : List (Answer → Type 0)
   from6 = With PositionAt POSITIONS ∷ from7
 
-  abbrev pub from5 : List (Answer → Type 0)
+  abbrev from5 : List (Answer → Type 0)
   from5 = With DepthAt DEPTH ∷ from6
 
-  abbrev pub from4 : List (Answer → Type 0)
+  abbrev from4 : List (Answer → Type 0)
   from4 = With RangeAt RANGE ∷ from5
 
-  abbrev pub from3 : List (Answer → Type 0)
+  abbrev from3 : List (Answer → Type 0)
   from3 = (λ r. (i : ℕ) × (r ≡ (SYNTAX, i)) × SyntaxAt text i) ∷ from4
 
-  abbrev pub from2 : List (Answer → Type 0)
+  abbrev from2 : List (Answer → Type 0)
   from2 = (λ r. (r ≡ (LONG, 0)) × (patternLimit < length text)) ∷ from3
 
   abbrev pub judgements : List (Answer → Type 0)

@@ -22,7 +22,7 @@ use Rattle.scope.proofs.Compile.{compiled-least}
 use Rattle.scope.proofs.Unpack.{unpack-pack, pack-unpack}
 use Rattle.scope.proofs.Separate.{same-exact, word-within}
 use Rattle.scope.proofs.Told.{rounds-suffice, rounds-least}
-use Rattle.scope.proofs.Refusals.{compile-rows, compile-leaves, minimise-first, match-first, compare-first, pack-first, unpack-first, taken}
+use Rattle.scope.proofs.Refusals.{compile-rows, compile-leaves, minimise-first, match-first, compare-first, pack-first, unpack-first, taken-exact}
 
 -- ---- the first
 
@@ -46,7 +46,7 @@ compilation {text} (compiled {t} y s m n k e h f) =
     record { tree = t; reads = p; only = λ u q. one-tree text u t q p; exact = e; least = compiled-least x t p }
 
 pub demand2 : Demand2
-demand2 = record { compiles = compilation; unpacks = unpack-pack; packs = pack-unpack; takes = taken }
+demand2 = record { compiles = compilation; unpacks = unpack-pack; packs = pack-unpack; takes = taken-exact }
 
 -- ---- the third
 

@@ -1,7 +1,7 @@
 -- Refusals: when each is given, and what it leaves, of each contract. The answer is one, so a condition that gives it is the one under which it is given; unpacking
 -- takes exactly what packing writes.
 --   compile-rows, compile-leaves, minimise-first, match-first, compare-first, pack-first, unpack-first: of each operation
---   taken: what unpacking takes is what packing writes
+--   taken-exact: what unpacking takes is what packing writes
 use Prim.Native.Nat.{ℕ, _<_, _≤_}
 use mathlib.Core.Path.{_≡_, refl, ap}
 use mathlib.Core.Logic.{_⊎_, inl, inr, _↔_}
@@ -22,34 +22,34 @@ use Rattle.scope.specs.Match.{Matches, accepted, dead, unfinished}
 use Rattle.scope.specs.Compare.{CompareLent, Compares, same, separated}
 use Rattle.scope.specs.Pack.{Packs}
 use Rattle.scope.specs.Unpack.{Unpacks, unpacked}
-use Rattle.scope.specs.Demands.{Packing, Refusal, Row, CompileRows, Rows, PackRows, Leaves}
-use Rattle.scope.proofs.Compile.{Answer, judgements, past1, past2, past3, past4, past5, past6, past7, answer-one}
+use Rattle.scope.specs.Demands.{Packing, Refusal, TableRow, CompileRows, TwoRows, PackRows, Leaves}
+use Rattle.scope.proofs.Compile.{judgements, past1, past2, past3, past4, past5, past6, past7, answer-one}
 use Rattle.scope.proofs.Determined.{Judged}
 use Rattle.scope.proofs.Compare.{unsound}
 use Rattle.scope.proofs.Unpack.{unpack-pack}
 
 -- the place 0
-nowhere : (m p : ℕ) → p ≡ 0 → _≡_ {A = Answer} (m, p) (m, 0)
+nowhere : (m p : ℕ) → p ≡ 0 → _≡_ {A = ℕ × ℕ} (m, p) (m, 0)
 nowhere m p e = ap (λ (k : ℕ). (m, k)) e
 
 module _ {text room room′ bytes bytes′ words words′ : List ℕ} where
   -- a row of compiling: what its answer shows, and what gives that answer
-  row : {n i m : ℕ} {P : ℕ → Type 0} → Compiles text room room′ bytes bytes′ words words′ n i
-      → ((p : ℕ) → Compiles text room room′ bytes bytes′ words words′ m p → P p) → ((p : ℕ) → P p → Judged (judgements text room bytes words) (m, p)) → Row n i m P
-  row u f g p = (λ e. f p (rw (e .0, e .1) at u), λ x. answer-one text room bytes words u (g p x))
+  compile-row : {n i m : ℕ} {P : ℕ → Type 0} → Compiles text room room′ bytes bytes′ words words′ n i
+      → ((p : ℕ) → Compiles text room room′ bytes bytes′ words words′ m p → P p) → ((p : ℕ) → P p → Judged (judgements text room bytes words) (m, p)) → TableRow n i m P
+  compile-row u f g p = (λ e. f p (rw (e .0, e .1) at u), λ x. answer-one text room bytes words u (g p x))
 
   -- compiling: when each refusal is given, and what it leaves
   pub compile-rows : {n i : ℕ} → Compiles text room room′ bytes bytes′ words words′ n i → CompileRows text room bytes words n i
   compile-rows u = record {
-    at-room = row u short (λ p (e, h). inl (nowhere ROOM p e, h));
-    at-long = row u long (λ p (e, l, h). past1 text room bytes words l (inl (nowhere LONG p e, h)));
-    at-syntax = row u (λ p v. elim v [ no-syntax y s f ↦ (y, s) ]) (λ p (y, s). past2 text room bytes words y (inl (p, refl, s)));
-    at-range = row u (λ p v. elim v [ falls {t = t} y q x f ↦ (y, (t, q, x)) ]) (λ p (y, (t, q, x)). past3 text room bytes words y q (inl (p, t, refl, q, x)));
-    at-depth = row u (λ p v. elim v [ too-deep {t = t} y q o x f ↦ (y, (t, q, o, x)) ]) (λ p (y, (t, q, o, x)). past4 text room bytes words y q o (inl (p, t, refl, q, x)));
-    at-positions = row u (λ p v. elim v [ too-many {t = t} y q o d x f ↦ (y, (t, q, o, d, x)) ])
+    at-room = compile-row u short (λ p (e, h). inl (nowhere ROOM p e, h));
+    at-long = compile-row u long (λ p (e, l, h). past1 text room bytes words l (inl (nowhere LONG p e, h)));
+    at-syntax = compile-row u (λ p v. elim v [ no-syntax y s f ↦ (y, s) ]) (λ p (y, s). past2 text room bytes words y (inl (p, refl, s)));
+    at-range = compile-row u (λ p v. elim v [ falls {t = t} y q x f ↦ (y, (t, q, x)) ]) (λ p (y, (t, q, x)). past3 text room bytes words y q (inl (p, t, refl, q, x)));
+    at-depth = compile-row u (λ p v. elim v [ too-deep {t = t} y q o x f ↦ (y, (t, q, o, x)) ]) (λ p (y, (t, q, o, x)). past4 text room bytes words y q o (inl (p, t, refl, q, x)));
+    at-positions = compile-row u (λ p v. elim v [ too-many {t = t} y q o d x f ↦ (y, (t, q, o, d, x)) ])
         (λ p (y, (t, q, o, d, x)). past5 text room bytes words y q o d (inl (p, t, refl, q, x)));
-    at-classes = row u classes (λ p (e, y, (t, z, m)). past6 text room bytes words y z (inl (t, nowhere CLASSES p e, z .pattern, m)));
-    at-states = row u states (λ p (e, y, (t, z, c, m)). past7 text room bytes words y z c (inl (t, nowhere STATES p e, z .pattern, m)));
+    at-classes = compile-row u classes (λ p (e, y, (t, z, m)). past6 text room bytes words y z (inl (t, nowhere CLASSES p e, z .pattern, m)));
+    at-states = compile-row u states (λ p (e, y, (t, z, c, m)). past7 text room bytes words y z c (inl (t, nowhere STATES p e, z .pattern, m)));
   }
     where
       short : (p : ℕ) → Compiles text room room′ bytes bytes′ words words′ ROOM p → (p ≡ 0) × (Lent room bytes words → ⊥)
@@ -66,13 +66,13 @@ module _ {text room room′ bytes bytes′ words words′ : List ℕ} where
       states p (many-sets {t} y z c m f) = (refl, y, (t, z, c, m))
 
 -- ROOM, FORM, and what is no refusal
-rows-room : {E F : Type 0} → (E → ⊥) → Rows ROOM E F
+rows-room : {E F : Type 0} → (E → ⊥) → TwoRows ROOM E F
 rows-room h = record { at-room = (λ e. h, λ f. refl); at-form = (λ e. absurd (omega arith), λ x. absurd (h (x .0))) }
 
-rows-form : {E F : Type 0} → E → F → Rows FORM E F
+rows-form : {E F : Type 0} → E → F → TwoRows FORM E F
 rows-form l f = record { at-room = (λ e. absurd (omega arith), λ h. absurd (h l)); at-form = (λ e. (l, f), λ x. refl) }
 
-rows-else : {n : ℕ} {E F : Type 0} → (Refusal n → ⊥) → E → (F → ⊥) → Rows n E F
+rows-else : {n : ℕ} {E F : Type 0} → (Refusal n → ⊥) → E → (F → ⊥) → TwoRows n E F
 rows-else {n} r l f = record {
   at-room = (λ e. absurd (r (omega arith)), λ h. absurd (h l));
   at-form = (λ e. absurd (r (omega arith)), λ x. absurd (f (x .1)));
@@ -106,13 +106,13 @@ module _ {text room room′ bytes bytes′ words words′ : List ℕ} where
 
 -- minimising
 pub minimise-first : {from room room′ bytes bytes′ words words′ : List ℕ} {n : ℕ} → Minimises from room room′ bytes bytes′ words words′ n
-    → Rows n (MinimiseLent from room bytes words) (Sound from → ⊥) × Leaves n (MinimiseLent from room bytes words) room room′ bytes bytes′ words words′
+    → TwoRows n (MinimiseLent from room bytes words) (Sound from → ⊥) × Leaves n (MinimiseLent from room bytes words) room room′ bytes bytes′ words words′
 minimise-first (Minimises.no-room h k t) = (rows-room h, leaves-first h k t)
 minimise-first (Minimises.no-form l f k t) = (rows-form l f, leaves l (λ r. k) t)
 minimise-first (minimised l s c e k t) = (rows-else (λ r. omega arith) l (λ f. f s), leaves l (λ r. absurd (omega arith)) t)
 
 -- matching
-pub match-first : {room text : List ℕ} {n i : ℕ} → Matches room text n i → Rows n (roomBytes ≤ length room) (Sound room → ⊥) × (Refusal n → i ≡ 0)
+pub match-first : {room text : List ℕ} {n i : ℕ} → Matches room text n i → TwoRows n (roomBytes ≤ length room) (Sound room → ⊥) × (Refusal n → i ≡ 0)
 match-first (Matches.no-room h) = (rows-room (λ l. omega arith), λ r. refl)
 match-first (Matches.no-form l f) = (rows-form l f, λ r. refl)
 match-first (accepted s a) = (rows-else (λ r. omega arith) (s .long) (λ f. f s), λ r. refl)
@@ -121,7 +121,7 @@ match-first (unfinished s a b) = (rows-else (λ r. omega arith) (s .long) (λ f.
 
 -- comparing
 pub compare-first : {left right word word′ bytes bytes′ words words′ : List ℕ} {n long rounds : ℕ} → Compares left right word word′ bytes bytes′ words words′ n long rounds
-    → Rows n (CompareLent left right word bytes words) ((Sound left → ⊥) ⊎ (Sound right → ⊥))
+    → TwoRows n (CompareLent left right word bytes words) ((Sound left → ⊥) ⊎ (Sound right → ⊥))
     × Leaves n (CompareLent left right word bytes words) word word′ bytes bytes′ words words′
 compare-first (Compares.no-room h k t) = (rows-room h, leaves-first h k t)
 compare-first (Compares.no-form l f k t) = (rows-form l f, leaves l (λ r. k) t)
@@ -155,10 +155,10 @@ pack-first (Packs.packed l c d s k t) = (
 form-written : (m f : List ℕ) → FormOf m f → Written (length f) (formByte m) f f
 form-written m f a = record { size = refl; inside = λ i h. a .bytes i (omega (arith, a .size)); outside = λ i h. refl }
 
--- what is taken is what packing writes
-pub taken : {form room room′ bytes bytes′ words words′ : List ℕ} {i : ℕ} → Lent room bytes words → Unpacks form room room′ bytes bytes′ words words′ i
+-- what is taken-exact is what packing writes
+pub taken-exact : {form room room′ bytes bytes′ words words′ : List ℕ} {i : ℕ} → Lent room bytes words → Unpacks form room room′ bytes bytes′ words words′ i
     → (i ≡ DONE) ↔ Packing form
-taken {form} {room} {room′} {bytes} {bytes′} {words} {words′} {i} l u = (λ e. out (rw e at u), into)
+taken-exact {form} {room} {room′} {bytes} {bytes′} {words} {words′} {i} l u = (λ e. out (rw e at u), into)
   where
     out : Unpacks form room room′ bytes bytes′ words words′ DONE → Packing form
     out (Unpacks.unpacked l n f k t) = record {
@@ -178,7 +178,7 @@ taken {form} {room} {room′} {bytes} {bytes′} {words} {words′} {i} l u = (�
 
 -- unpacking
 pub unpack-first : {form room room′ bytes bytes′ words words′ : List ℕ} {n : ℕ} → Unpacks form room room′ bytes bytes′ words words′ n
-    → Rows n (Lent room bytes words) (Packing form → ⊥) × Leaves n (Lent room bytes words) room room′ bytes bytes′ words words′
+    → TwoRows n (Lent room bytes words) (Packing form → ⊥) × Leaves n (Lent room bytes words) room room′ bytes bytes′ words words′
 unpack-first (Unpacks.no-room h k t) = (rows-room h, leaves-first h k t)
-unpack-first {n = n} (Unpacks.no-form l f k t) = (rows-form l (λ p. let e = taken l (Unpacks.no-form l f k t) .1 p in omega arith), leaves l (λ r. k) t)
-unpack-first (unpacked l c f k t) = (rows-else (λ r. omega arith) l (λ g. g (taken l (unpacked l c f k t) .0 refl)), leaves l (λ r. absurd (omega arith)) t)
+unpack-first {n = n} (Unpacks.no-form l f k t) = (rows-form l (λ p. let e = taken-exact l (Unpacks.no-form l f k t) .1 p in omega arith), leaves l (λ r. k) t)
+unpack-first (unpacked l c f k t) = (rows-else (λ r. omega arith) l (λ g. g (taken-exact l (unpacked l c f k t) .0 refl)), leaves l (λ r. absurd (omega arith)) t)

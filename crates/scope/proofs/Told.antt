@@ -18,14 +18,14 @@ use Rattle.scope.proofs.Aside.{aside-closed, left-run, right-run}
 use Rattle.scope.proofs.Separate.{spell}
 
 -- the state i of the machine A accepts the strings of the state q of K
-record Stands (A : Machine) (i : ℕ) (K : Machine) (q : ℕ) : Type 0 where
+record StandsFor (A : Machine) (i : ℕ) (K : Machine) (q : ℕ) : Type 0 where
   same : Same A i K q
 
 -- a string tells two states apart, if it tells those apart that they stand for; and the other way
-tells-out : {A K L : Machine} {i j p q : ℕ} {w : List ℕ} → Stands A i K p → Stands A j L q → Tells A i A j w → Tells K p L q w
+tells-out : {A K L : Machine} {i j p q : ℕ} {w : List ℕ} → StandsFor A i K p → StandsFor A j L q → Tells A i A j w → Tells K p L q w
 tells-out {w = w} e f t = record { bytes = t .bytes; differ = λ d. t .differ (e .same w (t .bytes) ∙ d ∙ sym (f .same w (t .bytes))) }
 
-tells-in : {A K L : Machine} {i j p q : ℕ} {w : List ℕ} → Stands A i K p → Stands A j L q → Tells K p L q w → Tells A i A j w
+tells-in : {A K L : Machine} {i j p q : ℕ} {w : List ℕ} → StandsFor A i K p → StandsFor A j L q → Tells K p L q w → Tells A i A j w
 tells-in {w = w} e f t = record { bytes = t .bytes; differ = λ d. t .differ (sym (e .same w (t .bytes)) ∙ d ∙ f .same w (t .bytes)) }
 
 -- of two states that a string tells apart, one of at most r bytes does, where nothing splits after r rounds
@@ -38,15 +38,15 @@ told-within A c r i j s h k w t = elim (first-not (λ d. together-either A d i j
 
 module _ (M N : Machine) (m : Closed M) (n : Closed N) where
   -- a state of the two machines stands side by side with the others
-  beside : {K : Machine} {q : ℕ} → StateOf M N K q → (i : ℕ) × (i < (aside M N) .states) × Stands (aside M N) i K q
-  beside (of-left {q} h) = (q, omega arith, record { same = λ w g. left-run M N m n q w h g })
-  beside (of-right {q} h) = (M .states + q, omega arith, record { same = λ w g. right-run M N m n q w h g })
+  state-aside : {K : Machine} {q : ℕ} → StateOf M N K q → (i : ℕ) × (i < (aside M N) .states) × StandsFor (aside M N) i K q
+  state-aside (of-left {q} h) = (q, omega arith, record { same = λ w g. left-run M N m n q w h g })
+  state-aside (of-right {q} h) = (M .states + q, omega arith, record { same = λ w g. right-run M N m n q w h g })
 
   -- and each that stands there is one
-  stood : (i : ℕ) → i < (aside M N) .states → (K : Machine) × (q : ℕ) × StateOf M N K q × Stands (aside M N) i K q
-  stood i h = go (split i (M .states))
+  aside-state : (i : ℕ) → i < (aside M N) .states → (K : Machine) × (q : ℕ) × StateOf M N K q × StandsFor (aside M N) i K q
+  aside-state i h = go (split i (M .states))
     where
-      go : (i < M .states) ⊎ (M .states ≤ i) → (K : Machine) × (q : ℕ) × StateOf M N K q × Stands (aside M N) i K q
+      go : (i < M .states) ⊎ (M .states ≤ i) → (K : Machine) × (q : ℕ) × StateOf M N K q × StandsFor (aside M N) i K q
       go (inl k) = (M, i, of-left k, record { same = λ w g. left-run M N m n i w k g })
       go (inr k) =
           let e : M .states + (i - M .states) ≡ i = omega arith in
@@ -55,8 +55,8 @@ module _ (M N : Machine) (m : Closed M) (n : Closed N) where
   -- rounds are enough
   pub rounds-suffice : (r : ℕ) → Rounds (aside M N) r → Suffices M N r
   rounds-suffice r s K L p q a b w t =
-      let (i, h, e) = beside a in
-      let (j, k, f) = beside b in
+      let (i, h, e) = state-aside a in
+      let (j, k, f) = state-aside b in
       let (v, l, u) = told-within (aside M N) (aside-closed M N m n) r i j s h k w (tells-in e f t) in
       (v, l, tells-out e f u)
 
@@ -65,8 +65,8 @@ module _ (M N : Machine) (m : Closed M) (n : Closed N) where
   suffices-enough r z i j h k u w g = elim (Bool-discrete ((aside M N) .accepts (run (aside M N) i w)) ((aside M N) .accepts (run (aside M N) j w))) [
     | yes e ↦ e
     | no d ↦ (
-        let (K, p, a, e) = stood i h in
-        let (L, q, b, f) = stood j k in
+        let (K, p, a, e) = aside-state i h in
+        let (L, q, b, f) = aside-state j k in
         let (v, l, t) = z K L p q a b w (tells-out e f (record { bytes = g; differ = d })) in
         absurd (tells-in e f t .differ (u v (t .bytes) l))
         )

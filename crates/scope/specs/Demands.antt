@@ -2,8 +2,8 @@
 -- and none of the operations has a `requires`.
 --   Packing f: packing writes the bytes f
 --   Refusal n: n is the number of a refusal
---   Row n i m P: the answer, with the number n and the place i, has the number m exactly where P says so, with that place
---   CompileRows, Rows, PackRows: when each refusal is given: of compiling; of operations that judge ROOM, then FORM; of packing
+--   TableRow n i m P: the answer, with the number n and the place i, has the number m exactly where P says so, with that place
+--   CompileRows, TwoRows, PackRows: when each refusal is given: of compiling; of operations that judge ROOM, then FORM; of packing
 --   Leaves: what a call leaves
 --   Compilation: what a compiled room is
 --   StateOf M N K q: q is a state of K, which is M or N
@@ -52,22 +52,22 @@ pub record Packing (f : List ℕ) : Type 0 where
 abbrev pub Refusal : ℕ → Type 0
 Refusal n = (ROOM ≤ n) × (n ≤ FORM)
 
-abbrev pub Row : ℕ → ℕ → ℕ → (ℕ → Type 0) → Type 0
-Row n i m P = (p : ℕ) → ((n ≡ m) × (i ≡ p)) ↔ P p
+abbrev pub TableRow : ℕ → ℕ → ℕ → (ℕ → Type 0) → Type 0
+TableRow n i m P = (p : ℕ) → ((n ≡ m) × (i ≡ p)) ↔ P p
 
 -- "Given exactly when", "Place", "in order of judgement": each row has the conditions of those before it that were passed
 pub record CompileRows (text room bytes words : List ℕ) (n i : ℕ) : Type 0 where
-  pub at-room : Row n i ROOM (λ p. (p ≡ 0) × (Lent room bytes words → ⊥))
-  pub at-long : Row n i LONG (λ p. (p ≡ 0) × Lent room bytes words × (patternLimit < length text))
-  pub at-syntax : Row n i SYNTAX (λ p. Fits text room bytes words × SyntaxAt text p)
-  pub at-range : Row n i RANGE (λ p. Fits text room bytes words × ((t : Tree) × Pattern text t × RangeAt t p))
-  pub at-depth : Row n i DEPTH (λ p. Fits text room bytes words × ((t : Tree) × Pattern text t × Ordered t × DepthAt t p))
-  pub at-positions : Row n i POSITIONS (λ p. Fits text room bytes words × ((t : Tree) × Pattern text t × Ordered t × Shallow t × PositionAt t p))
-  pub at-classes : Row n i CLASSES (λ p. (p ≡ 0) × Fits text room bytes words × ((t : Tree) × Sized text t × ManyClasses (expr t)))
-  pub at-states : Row n i STATES (λ p. (p ≡ 0) × Fits text room bytes words × ((t : Tree) × Sized text t × FewClasses (expr t) × ManySets (expr t)))
+  pub at-room : TableRow n i ROOM (λ p. (p ≡ 0) × (Lent room bytes words → ⊥))
+  pub at-long : TableRow n i LONG (λ p. (p ≡ 0) × Lent room bytes words × (patternLimit < length text))
+  pub at-syntax : TableRow n i SYNTAX (λ p. Fits text room bytes words × SyntaxAt text p)
+  pub at-range : TableRow n i RANGE (λ p. Fits text room bytes words × ((t : Tree) × Pattern text t × RangeAt t p))
+  pub at-depth : TableRow n i DEPTH (λ p. Fits text room bytes words × ((t : Tree) × Pattern text t × Ordered t × DepthAt t p))
+  pub at-positions : TableRow n i POSITIONS (λ p. Fits text room bytes words × ((t : Tree) × Pattern text t × Ordered t × Shallow t × PositionAt t p))
+  pub at-classes : TableRow n i CLASSES (λ p. (p ≡ 0) × Fits text room bytes words × ((t : Tree) × Sized text t × ManyClasses (expr t)))
+  pub at-states : TableRow n i STATES (λ p. (p ≡ 0) × Fits text room bytes words × ((t : Tree) × Sized text t × FewClasses (expr t) × ManySets (expr t)))
 
 -- "judge 1, then 9": what is lent is not enough; or it is, and there is a fault
-pub record Rows (n : ℕ) (Enough Fault : Type 0) : Type 0 where
+pub record TwoRows (n : ℕ) (Enough Fault : Type 0) : Type 0 where
   pub at-room : (n ≡ ROOM) ↔ (Enough → ⊥)
   pub at-form : (n ≡ FORM) ↔ (Enough × Fault)
 
@@ -89,17 +89,17 @@ pub record Demand1 : Type 0 where
   pub compiles : {text room room′ bytes bytes′ words words′ : List ℕ} {n i : ℕ} → Compiles text room room′ bytes bytes′ words words′ n i
       → CompileRows text room bytes words n i × Leaves n (Lent room bytes words) room room′ bytes bytes′ words words′
   pub minimises : {from room room′ bytes bytes′ words words′ : List ℕ} {n : ℕ} → Minimises from room room′ bytes bytes′ words words′ n
-      → Rows n (MinimiseLent from room bytes words) (Sound from → ⊥) × Leaves n (MinimiseLent from room bytes words) room room′ bytes bytes′ words words′
+      → TwoRows n (MinimiseLent from room bytes words) (Sound from → ⊥) × Leaves n (MinimiseLent from room bytes words) room room′ bytes bytes′ words words′
   -- no scratch is lent, and nothing is written
-  pub matches : {room text : List ℕ} {n i : ℕ} → Matches room text n i → Rows n (roomBytes ≤ length room) (Sound room → ⊥) × (Refusal n → i ≡ 0)
+  pub matches : {room text : List ℕ} {n i : ℕ} → Matches room text n i → TwoRows n (roomBytes ≤ length room) (Sound room → ⊥) × (Refusal n → i ≡ 0)
   pub compares : {left right word word′ bytes bytes′ words words′ : List ℕ} {n i r : ℕ} → Compares left right word word′ bytes bytes′ words words′ n i r
-      → Rows n (CompareLent left right word bytes words) ((Sound left → ⊥) ⊎ (Sound right → ⊥))
+      → TwoRows n (CompareLent left right word bytes words) ((Sound left → ⊥) ⊎ (Sound right → ⊥))
       × Leaves n (CompareLent left right word bytes words) word word′ bytes bytes′ words words′
   pub packs : {room form form′ bytes bytes′ words words′ : List ℕ} {n i : ℕ} → Packs room form form′ bytes bytes′ words words′ n i
       → PackRows room form bytes words n × Leaves n (Lent room bytes words) form form′ bytes bytes′ words words′
   -- "for unpacking, bytes that packing can't write"
   pub unpacks : {form room room′ bytes bytes′ words words′ : List ℕ} {n : ℕ} → Unpacks form room room′ bytes bytes′ words words′ n
-      → Rows n (Lent room bytes words) (Packing form → ⊥) × Leaves n (Lent room bytes words) room room′ bytes bytes′ words words′
+      → TwoRows n (Lent room bytes words) (Packing form → ⊥) × Leaves n (Lent room bytes words) room room′ bytes bytes′ words words′
 
 -- ---- the second
 
