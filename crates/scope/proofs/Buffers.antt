@@ -1,5 +1,6 @@
 -- What the records on buffers determine: two lists that one record allows are equal, element by element.
 --   written-one, written-none, tail-one: of one buffer
+--   written-take: the bytes that were written are the string
 --   all-kept: what is not touched
 --   cleared-one, untouched-one: of the scratch
 use Prim.Native.Nat.{ℕ, _<_, _≤_}
@@ -7,8 +8,8 @@ use mathlib.Core.Path.{_≡_, refl, sym, _∙_}
 use mathlib.Core.Logic.{_⊎_, inl, inr}
 use mathlib.Core.List.{List}
 use native.Mathlib.Omega.{arith}
-use lib.ListN.{getD}
-use lib.Seq.{ext-getD}
+use lib.ListN.{length, take, getD}
+use lib.Seq.{ext-getD, length-take-le, getD-take}
 use Rattle.scope.specs.Buffers.{Written, TailKept, Cleared, Untouched}
 use Rattle.scope.proofs.Tests.{split}
 
@@ -22,6 +23,11 @@ written-one {n} {f} {old} {a} {b} u v = ext-getD 0 a b (u .size ∙ sym (v .size
 -- where nothing is written, all is kept
 pub written-none : {f : ℕ → ℕ} {old new : List ℕ} → Written 0 f old new → new ≡ old
 written-none {f} {old} {new} u = ext-getD 0 new old (u .size) (λ i h. u .outside i (omega arith))
+
+-- the bytes that were written are the string
+pub written-take : (w old new : List ℕ) (n : ℕ) → length w ≡ n → n ≤ length old → Written n (λ i. getD w i 0) old new → take n new ≡ w
+written-take w old new n e h k = ext-getD 0 (take n new) w (length-take-le n new (omega (arith, k .size)) ∙ sym e)
+    (λ i l. let b : i < n = omega (arith, length-take-le n new (omega (arith, k .size))) in getD-take n new i 0 b ∙ k .inside i b)
 
 -- the first n elements, and what is kept of the rest
 pub tail-one : {n : ℕ} {old a b : List ℕ} → TailKept n old a → TailKept n old b → ((i : ℕ) → i < n → getD a i 0 ≡ getD b i 0) → a ≡ b

@@ -3,10 +3,11 @@
 --   classes-apart, sets-apart: over a limit and within it exclude each other
 --   one-language: two machines for one language accept the same strings
 --   judgements, past1 .. past7, answer-one: the judgements in their order, what passes each, and that the answer is theirs
+--   lent-one: what is lent, where it is enough, makes no difference to number and place
 --   determined: two results of one call are equal, with every byte of every buffer
 --   compiled-exact, compiled-canonical: after Done the room accepts exactly the words of the text's tree, and is canonical
 --   compiled-least: no complete machine for them has fewer states
---   same-room: two texts with the same words give the same room
+--   same-room, one-room: two texts with the same words give the same room; and so does one text
 use Prim.Native.Nat.{ℕ, _<_, _≤_}
 use mathlib.Core.Path.{_≡_, refl, sym, ap, subst, _∙_}
 use mathlib.Core.Logic.{inl, inr, _↔_}
@@ -154,6 +155,14 @@ module _ (text room bytes words : List ℕ) where
       let e = judged-one judgements single (n, i) (m, j) (chain a) d in
       (ap (λ (r : Answer). r .0) e, ap (λ (r : Answer). r .1) e)
 
+-- what is lent, where it is enough, makes no difference to number and place
+pub lent-one : {text room room′ bytes bytes′ words words′ other other′ a a′ d d′ : List ℕ} {n i m j : ℕ} → Lent room bytes words → Lent other a d
+    → Compiles text room room′ bytes bytes′ words words′ n i → Compiles text other other′ a a′ d d′ m j → (n ≡ m) × (i ≡ j)
+lent-one {text} {room} {bytes = bytes} {words = words} {other} {a = a} {d = d} l k x y = answer-one text room bytes words x (elim (chain text other a d y) [
+  | inl (e, h) ↦ absurd (h k)
+  | inr (f, z) ↦ past1 text room bytes words l z
+])
+
 -- ---- one answer, one result
 
 -- the rooms and the scratch
@@ -200,3 +209,11 @@ module _ {text text′ room room′ u v bytes b bytes′ b′ words w words′ w
       → ((s : List ℕ) → Words (expr t) s ↔ Words (expr t′) s) → SameBytes u v
   same-room x y t t′ p q e = unique u v (compiled-canonical x) (compiled-canonical y)
       (one-language (machine u) (machine v) (Words (expr t)) (compiled-exact x t p) (λ s g. (λ a. e s .1 (compiled-exact y t′ q s g .0 a), λ l. compiled-exact y t′ q s g .1 (e s .0 l))))
+
+-- one text, into whatever rooms
+pub one-room : {text room room′ u v bytes b bytes′ b′ words w words′ w′ : List ℕ} {i j : ℕ} → Compiles text room u bytes b words w DONE i
+    → Compiles text room′ v bytes′ b′ words′ w′ DONE j → SameBytes u v
+one-room {text} (compiled {t} y s m n k e h f) x = same-room (compiled y s m n k e h f) (done x) t t (s .pattern) (s .pattern) (λ s. (λ a. a, λ a. a))
+  where
+    done : {room′ v bytes′ b′ words′ w′ : List ℕ} {j : ℕ} → Compiles text room′ v bytes′ b′ words′ w′ DONE j → Compiles text room′ v bytes′ b′ words′ w′ DONE 0
+    done (compiled y s m n k e h f) = compiled y s m n k e h f

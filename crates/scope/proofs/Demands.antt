@@ -2,19 +2,18 @@
 --   demand1: refusals
 --   demand2: compiling, packing and unpacking
 --   demand3: comparing
-use Prim.Native.Nat.{ℕ, _<_, _≤_}
-use mathlib.Core.Path.{_≡_, refl, sym, _∙_}
+use Prim.Native.Nat.{ℕ, _≤_}
+use mathlib.Core.Path.{_≡_, refl}
 use mathlib.Core.Logic.{inl, inr}
 use mathlib.Core.List.{List}
 use native.Mathlib.Omega.{arith}
-use lib.ListN.{length, take, getD}
-use lib.Seq.{length-take-le, getD-take, ext-getD}
+use lib.ListN.{take}
 use Rattle.scope.specs.Answers.{DONE}
 use Rattle.scope.specs.Room.{machine, Sound}
-use Rattle.scope.specs.Buffers.{Written}
 use Rattle.scope.specs.Compile.{Compiles, compiled}
 use Rattle.scope.specs.Compare.{CompareLent, Compares, same, separated}
 use Rattle.scope.specs.Demands.{Demand1, Compilation, Demand2, Comparison, Demand3}
+use Rattle.scope.proofs.Buffers.{written-take}
 use Rattle.scope.proofs.Run.{sound-closed}
 use Rattle.scope.proofs.Aside.{rounds-two}
 use Rattle.scope.proofs.Tree.{one-tree}
@@ -50,11 +49,6 @@ demand2 = record { compiles = compilation; unpacks = unpack-pack; packs = pack-u
 
 -- ---- the third
 
--- the bytes that were written are the string
-written-string : (w old new : List ℕ) (n : ℕ) → length w ≡ n → n ≤ length old → Written n (λ i. getD w i 0) old new → take n new ≡ w
-written-string w old new n e h k = ext-getD 0 (take n new) w (length-take-le n new (omega (arith, k .size)) ∙ sym e)
-    (λ i l. let b : i < n = omega (arith, length-take-le n new (omega (arith, k .size))) in getD-take n new i 0 b ∙ k .inside i b)
-
 module _ {left right word word′ bytes bytes′ words words′ : List ℕ} where
   comparison : {i n r : ℕ} → CompareLent left right word bytes words → Sound left → Sound right → Compares left right word word′ bytes bytes′ words words′ i n r
       → Comparison left right word′ i n r
@@ -77,7 +71,7 @@ module _ {left right word word′ bytes bytes′ words words′ : List ℕ} wher
       let o = sound-closed right t in
       let a : n ≤ r = omega (arith, word-within (machine left) (machine right) m o r w z e) in
       let b = rounds-two (machine left) (machine right) m o r z in
-      let x : take n word′ ≡ w = written-string w word word′ n d (omega (arith, b, s .few-states, t .few-states, lent .word-long)) k in
+      let x : take n word′ ≡ w = written-take w word word′ n d (omega (arith, b, s .few-states, t .few-states, lent .word-long)) k in
       record {
         same = (λ x. absurd (omega arith), λ f. absurd (f w (e .separates)));
         otherwise = λ f. (refl, rw x d, rw x e);

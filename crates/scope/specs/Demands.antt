@@ -10,6 +10,7 @@
 --   Tells K p L q w: w is accepted from one of the states p of K and q of L, and refused from the other
 --   Suffices M N r: any two states of M and N that some string tells apart are told apart by one of at most r bytes
 --   Comparison: what comparing two sound rooms answers
+--   Demand1, Demand2, Demand3: the demands
 use Prim.Native.Nat.{ℕ, _+_, _<_, _≤_}
 use mathlib.Core.Path.{_≡_}
 use mathlib.Core.Logic.{_⊎_, _↔_}
