@@ -3,6 +3,7 @@
 --   history-shows: after keys from an opened form, the form is that of the history of the accepted keys
 --   history-texts: so each text, and the number of closed fields, is what that history gives
 --   no-trace: the accepted keys alone lead to the same form
+--   Served, served-none, served-keys: after keys from an opened form the machines are sound, and keys can give the form
 --   never-form: after keys from an opened form no key is answered by ROOM or FORM
 use Prim.Native.Nat.{ℕ, _-_, _≤_, _<_}
 use mathlib.Core.Path.{_≡_, _∙_}
@@ -109,13 +110,13 @@ judges-own (dead-byte h k l m) = (λ z. omega arith, λ z. omega arith)
 judges-own (byte-taken h k l m) = (λ z. omega arith, λ z. omega arith)
 
 -- what is lent is long enough, the machines are sound, and keys can give the form
-record Served (rooms form : List ℕ) : Type 0 where
-  lent : DeskLent (countOf form) rooms form
-  ready : Ready rooms form
+pub record Served (rooms form : List ℕ) : Type 0 where
+  pub lent : DeskLent (countOf form) rooms form
+  pub ready : Ready rooms form
 
 module _ {rooms : List ℕ} where
   -- so it is with an opened form
-  served-none : {n : ℕ} {form form′ : List ℕ} → Opens n rooms form form′ DONE → Served rooms form′
+  pub served-none : {n : ℕ} {form form′ : List ℕ} → Opens n rooms form form′ DONE → Served rooms form′
   served-none (opened f l s e k) = record {
     lent = record { form-long = omega (arith, l .form-long, k .size); rooms-long = rw (e .count) (l .rooms-long) };
     ready = record { sound = rw (e .count) s; given = record { entry = nothing; fields = rw (e .count) f; gives = key.opened; shows = rw (e .count) e } };
@@ -133,7 +134,8 @@ module _ {rooms : List ℕ} where
     };
   }
 
-  served-keys : {form form′ keys kept : List ℕ} → Bytes keys → KeysPressed rooms form keys kept form′ → Served rooms form → Served rooms form′
+  -- and after any keys
+  pub served-keys : {form form′ keys kept : List ℕ} → Bytes keys → KeysPressed rooms form keys kept form′ → Served rooms form → Served rooms form′
   served-keys g none v = v
   served-keys g (accepted p q) v = served-keys (g .1) q (served-key (g .0) p v)
   served-keys g (refused p d q) v = served-keys (g .1) q (served-key (g .0) p v)

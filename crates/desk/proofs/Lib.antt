@@ -8,3 +8,5 @@ pub mod History
 pub mod Keys
 pub mod Retyping
 pub mod Laws
+pub mod Answers
+pub mod Given
