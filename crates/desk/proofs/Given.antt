@@ -102,6 +102,7 @@ module _ {rooms base : List ℕ} {n : ℕ} (lent : DeskLent n rooms base) (field
       (record { sound = rw (s .count) sound; given = record { entry = e; fields = rw (s .count) fields; gives = rw (s .count) g; shows = rw (s .count) s } })
       (rw (s .count) j) (rw (s .count) s′) (record { size = t′ .size ∙ sym (t .size); outside = λ i h. t′ .outside i h ∙ sym (t .outside i h) })
 
+  -- the opened form
   first : (form : List ℕ) × Shows n nothing form × TailKept formBytes base form
   first = shown n nothing base (lent .form-long)
 

@@ -18,7 +18,7 @@ module _ (rooms : List ℕ) where
     refused : {form form₁ form₂ keys kept : List ℕ} {key number : ℕ} → Presses rooms form form₁ key number → (number ≡ DONE → ⊥)
         → KeysPressed form₁ keys kept form₂ → KeysPressed form (key ∷ keys) kept form₂
 
--- "some keys from an opened form lead to it"
+-- the keys are bytes, and lead from the opened form, each answered Done
 pub record ByKeys (rooms form : List ℕ) : Type 0 where
   pub first : List ℕ
   pub keys : List ℕ

@@ -38,7 +38,7 @@ module _ {text room room′ bytes bytes′ words words′ : List ℕ} where
       → ((p : ℕ) → Compiles text room room′ bytes bytes′ words words′ m p → P p) → ((p : ℕ) → P p → Judged (judgements text room bytes words) (m, p)) → TableRow n i m P
   compile-row u f g p = (λ e. f p (rw (e .0, e .1) at u), λ x. answer-one text room bytes words u (g p x))
 
-  -- compiling: when each refusal is given, and what it leaves
+  -- compiling: when each refusal is given
   pub compile-rows : {n i : ℕ} → Compiles text room room′ bytes bytes′ words words′ n i → CompileRows text room bytes words n i
   compile-rows u = record {
     at-room = compile-row u short (λ p (e, h). inl (nowhere ROOM p e, h));
@@ -93,6 +93,7 @@ module _ {room room′ bytes bytes′ words words′ : List ℕ} where
   compile-refused l f = leaves l (λ r. f .kept) (f .cleared)
 
 module _ {text room room′ bytes bytes′ words words′ : List ℕ} where
+  -- and what it leaves
   pub compile-leaves : {n i : ℕ} → Compiles text room room′ bytes bytes′ words words′ n i → Leaves n (Lent room bytes words) room room′ bytes bytes′ words words′
   compile-leaves (no-room h k t) = leaves-first h k t
   compile-leaves (too-long l h f) = compile-refused l f
