@@ -55,7 +55,7 @@ pub struct Drawing {
 /// At least so many columns for the text beside the label; or else it has lines of its own below.
 const TEXT_COLUMNS: usize = 24;
 
-/// Below so many columns nothing but the fields' marks is set in from the left.
+/// Below so many columns nothing is set in from the left.
 const SET_IN: usize = 40;
 
 /// Lays out what is shown for a screen of so many rows and columns.
@@ -68,41 +68,34 @@ pub fn lay_out(view: &View, rows: u16, columns: u16) -> Drawing {
         lines.map(|line| format!("{indent}{line}"))
     };
     let blank = || std::iter::once(String::new());
-    let mut title: Vec<String> = wrap(&view.title, columns)
-        .into_iter()
-        .chain(blank())
-        .collect();
-    let mut hint: Vec<String> = blank().chain(below(&view.hint)).collect();
+    let title = wrap(&view.title, columns).into_iter().chain(blank());
+    let hint = blank().chain(below(&view.hint));
+    let help = blank().chain(below(&view.help));
     let mut message: Vec<String> = below(&view.message).collect();
-    let mut help: Vec<String> = blank().chain(below(&view.help)).collect();
     // Where there is room, the line of the message is kept for it.
     if message.is_empty() {
         message.push(String::new());
     }
 
     // What does not fit goes, the least needed first.
-    let over = |parts: [&Vec<String>; 4]| {
-        let lines: usize = parts.iter().map(|part| part.len()).sum();
-        fields.lines.len() + lines > rows
-    };
-    if over([&title, &hint, &message, &help]) {
-        help.clear();
-    }
-    if over([&title, &hint, &message, &help]) {
-        title.clear();
-    }
-    if over([&title, &hint, &message, &help]) {
-        hint.clear();
-    }
-    if over([&title, &hint, &message, &help]) && view.message.is_empty() {
-        message.clear();
+    let mut parts = [title.collect(), hint.collect(), message, help.collect()];
+    let count = |parts: &[Vec<String>; 4]| parts.iter().map(Vec::len).sum::<usize>();
+    for (least, may_go) in [
+        (3, true),
+        (0, true),
+        (1, true),
+        (2, view.message.is_empty()),
+    ] {
+        if may_go && fields.lines.len() + count(&parts) > rows {
+            parts[least].clear();
+        }
     }
     // The cursor's line stays beside the message, and with three rows or more another one of the open field.
     let most = rows - if rows > 2 { 2 } else { 1 };
-    let message = cut(message, most, columns);
-    let height = rows - title.len() - hint.len() - message.len() - help.len();
-    let (begin, end) = fields.window(height);
+    parts[2] = cut(std::mem::take(&mut parts[2]), most, columns);
+    let (begin, end) = fields.window(rows - count(&parts));
 
+    let [title, hint, message, help] = parts;
     let row = title.len() + fields.cursor.0 - begin;
     let mut lines = title;
     lines.extend_from_slice(&fields.lines[begin..end]);
