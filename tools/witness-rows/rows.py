@@ -210,6 +210,10 @@ class Rows:
         for form, rooms in (ENTRY - 1, ROOM), (ENTRY + 3, ROOM), (ENTRY, ROOM - 1), (ENTRY, ROOM + 3):
             group = self.desk("a", ["a*"])
             group.append((row("y", rooms, form, text=b"a"), f"the key `a` on a form of {form} bytes and rooms of {rooms}"))
+        for field in range(3):
+            group = self.desk("a%0d", ["a*"] * 3)
+            group.append((row("w", (field + 1) * ROOM - 1, 1), ""))
+            group.append((row("y", 3 * ROOM, ENTRY, text=b"a"), f"the key `a` on the second of three fields, where the machine of field {field + 1} is not sound"))
 
     def reports(self):
         for text in "a*b*%0a(a|b)*%0a", "aaa%0aaaaa", "%{a^1024}%0a%{a^1025}%0a", "%{a*^512}*%0a%00%0a", "a%00b%0ab%0ac", "%", "a", "[b-a]%0aab|cJ%0a", "a|\\xJ%0a", "%{a^1030}%0a%0a", "aJ%0aa\\x4b":
