@@ -1,6 +1,6 @@
 -- A prefix is completable exactly if the state that it leads to is live. From a live state the rest of a text can be taken back: if the whole text leads
 -- to a live state, so does every prefix.
---   Stepped m cells q b, stepped: the cell for a state and a byte, in the part of a room that begins at its first cell
+--   Stepped m cells k q b, stepped: the cell for a state and a byte, in the part of a room that begins at its first cell
 --   known-bytes: elements below 256 are a string of bytes
 --   At M s i q: the first i bytes of s lead to the state q; at-start, at-more, at-end: none, one more, all
 --   accepting, not-accepting: what the mark of the last state says
@@ -8,7 +8,7 @@
 --   alive: every prefix of a text that leads to a live state is completable
 --   inside: a prefix that leads to a live state is not the whole of a text that leads to a dead one
 use Prim.Native.Nat.{ℕ, suc, _+_, _*_, _≤_, _<_}
-use mathlib.Core.Path.{_≡_, refl, sym, ap}
+use mathlib.Core.Path.{_≡_, refl, sym, ap, _∙_}
 use mathlib.Core.Logic.{inl, inr}
 use mathlib.Core.List.{List, [], _∷_, _++_, append-assoc}
 use native.Mathlib.Omega.{arith}
@@ -22,8 +22,8 @@ use Rattle.scope.specs.Room.{statesOf, classesOf, classOf, markOf, cellOf, next
 use Rattle.scope.specs.Match.{Alive}
 use Rattle.scope.proofs.Tests.{split, equals}
 use Rattle.scope.proofs.Run.{run-append, bytes-append}
-use Rattle.room.specs.Live.{Live}
-use Rattle.room.proofs.Laws.{cell-known}
+use Rattle.live.specs.Live.{Live}
+use Rattle.room.proofs.Laws.{CellAt, cell-at}
 
 -- elements below 256 are a string of bytes
 pub known-bytes : (s : List ℕ) → ((i : ℕ) → getD s i 0 < byteValues) → Bytes s
@@ -82,28 +82,28 @@ pub inside : {M : Machine} {s : List ℕ} {i q : ℕ} → At M s i q → (Live M
 inside {s = s} {i = i} a d l = elim (split i (length s)) [ inl x ↦ x | inr x ↦ absurd (d (rw (at-end a x) at l)) ]
 
 -- the cell for a state and a byte, in the part of a room that begins at its first cell
-pub record Stepped (m cells : List ℕ) (q b : ℕ) : Type 0 where
+pub record Stepped (m cells : List ℕ) (k q b : ℕ) : Type 0 where
   pub class : classOf m b < classesOf m
-  pub small : q * classesOf m + classOf m b < roomBytes
-  pub within : q * classesOf m + classOf m b < length cells
-  pub cell : getD cells (q * classesOf m + classOf m b) 0 ≡ nextOf m q b
-  pub state : getD cells (q * classesOf m + classOf m b) 0 < statesOf m
+  pub small : q * k + classOf m b < roomBytes
+  pub within : q * k + classOf m b < length cells
+  pub cell : getD cells (q * k + classOf m b) 0 ≡ nextOf m q b
+  pub state : getD cells (q * k + classOf m b) 0 < statesOf m
 
-pub stepped : {m cells : List ℕ} → Sound m → cells ≡ drop cellsAt m → (q b : ℕ) → q < statesOf m → b < byteValues → Stepped m cells q b
+pub stepped : {m cells : List ℕ} {k : ℕ} → Sound m → cells ≡ drop cellsAt m → k ≡ classesOf m → (q b : ℕ) → q < statesOf m → b < byteValues → Stepped m cells k q b
 unfolding nextOf
-stepped {m} {cells} s e q b h g = record {
+stepped {m} {cells} {k} s e f q b h g = record {
   class = class;
-  small = omega (arith, known);
-  within = omega (arith, known, s .long, ap length e, length-drop cellsAt m);
-  cell = cell;
-  state = rw cell (known .1);
+  small = omega (arith, known .fits);
+  within = omega (arith, known .fits, s .long, ap length e, length-drop cellsAt m);
+  cell = cell ∙ known .is;
+  state = rw cell (known .inside);
 }
   where
     class : classOf m b < classesOf m
     class = s .classes (classesAt + b) (omega arith) (omega arith)
 
-    known : (cellsAt + (q * classesOf m + classOf m b) < roomBytes) × (cellOf m q (classOf m b) < statesOf m)
-    known = cell-known s q (classOf m b) h class
+    known : CellAt m q k (classOf m b)
+    known = cell-at s f h class
 
-    cell : getD cells (q * classesOf m + classOf m b) 0 ≡ cellOf m q (classOf m b)
-    cell = rw e (getD-drop cellsAt m (q * classesOf m + classOf m b) 0)
+    cell : getD cells (q * k + classOf m b) 0 ≡ getD m (cellsAt + (q * k + classOf m b)) 0
+    cell = rw e (getD-drop cellsAt m (q * k + classOf m b) 0)

@@ -8,8 +8,8 @@ ghost use Rattle.scope.specs.Answers.{matchedNumber, matchedPlace};
 ghost use Rattle.scope.specs.Machine.{run};
 ghost use Rattle.scope.specs.Match.{DeadAt, Matches};
 ghost use Rattle.scope.specs.Limits.{cellsAt};
-ghost use Rattle.scope.specs.Room.{statesOf, nextOf, machine, Sound};
-ghost use Rattle.room.specs.Live.{Live, LiveMarks};
+ghost use Rattle.scope.specs.Room.{statesOf, classesOf, nextOf, machine, Sound};
+ghost use Rattle.live.specs.Live.{Live, LiveMarks};
 
 // Judges the room, and answers how the text stands: accepted, dead from a place on, or unfinished.
 pub fn match_text(room: &[u8], text: &[u8]) -> Matched
@@ -33,19 +33,18 @@ fn match_sound(room: &[u8], text: &[u8]) -> Matched
     if room[Machine::MARKS_AT + q] == 1 {
         return Matched::Accepted;
     }
-    let live = room::live(room);
+    let live = live::live(room);
     if live[q] == 1 {
         return Matched::Unfinished;
     }
     Matched::Dead(first_dead(room, text, &live))
 }
 
-// The state to which the byte b leads from the state q. `cells` is the room from its first cell on: where one cell is, is then one product and one sum.
-fn step(room: &[u8], cells: &[u8], q: usize, b: u8) -> usize
-    requires { ⌜ Sound (now room) × (q < statesOf (now room)) × (now cells ≡ drop cellsAt (now room)) ⌝ }
+// The state to which the byte b leads from the state q. `cells` is the room from its first cell on, in rows of k: where one cell is, is then one product and one sum.
+fn step(room: &[u8], cells: &[u8], k: usize, q: usize, b: u8) -> usize
+    requires { ⌜ Sound (now room) × (q < statesOf (now room)) × (k ≡ classesOf (now room)) × (now cells ≡ drop cellsAt (now room)) ⌝ }
     ensures { λ r. ⌜ (r ≡ nextOf (now (room .entry)) q b) × (r < statesOf (now (room .entry))) ⌝ }
 {
-    let k = room[1] as usize;
     let class = room[Machine::CLASSES_AT + b as usize] as usize;
     cells[q * k + class] as usize
 }
@@ -56,10 +55,11 @@ fn last_state(room: &[u8], text: &[u8]) -> usize
     ensures { λ r. ⌜ (r ≡ run (machine (now (room .entry))) 0 (now (text .entry))) × (r < statesOf (now (room .entry))) ⌝ }
 {
     let cells = &room[Machine::CELLS_AT..];
+    let k = room::head(room).classes;
     let mut q: usize = 0;
     let mut i: usize = 0;
     while i < text.len() {
-        q = step(room, cells, q, text[i]);
+        q = step(room, cells, k, q, text[i]);
         i += 1;
     }
     q

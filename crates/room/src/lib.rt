@@ -1,20 +1,40 @@
-// Reading a machine room: whether it is sound, one step of its machine, and its live states.
-mod marks;
-
+// A machine room: its head read and written, whether it is sound, and one step of its machine.
 use scope::Machine;
 ghost use mathlib.Core.Path.{_≡_};
 ghost use Prim.Native.Nat.{_<_, _≤_};
 ghost use lib.ListN.{length};
+ghost use Rattle.scope.specs.Limits.{classLimit, stateLimit, classesAt};
+ghost use Rattle.scope.specs.Buffers.{Written};
 ghost use Rattle.scope.specs.Room.{statesOf, classesOf, cellOf, nextOf, Below, Sound};
 ghost use Rattle.slices.specs.Parts.{Decides};
-ghost use Rattle.room.specs.Live.{LiveMarks};
+ghost use Rattle.room.specs.Head.{headByte};
+
+// The head of a room: how many states and classes it has.
+pub fn head(room: &[u8]) -> Machine
+    requires { ⌜ classesAt ≤ length (now room) ⌝ }
+    ensures { λ r. ⌜ (r .states ≡ statesOf (now (room .entry))) × (r .classes ≡ classesOf (now (room .entry))) ⌝ }
+{
+    Machine {
+        states: room[0] as usize,
+        classes: room[1] as usize,
+    }
+}
+
+// Writes the head of a room.
+pub fn write_head(room: &mut [u8], machine: Machine)
+    requires { ⌜ (classesAt ≤ length (now room)) × (machine .states ≤ stateLimit) × (machine .classes ≤ classLimit) ⌝ }
+    ensures { λ _. ⌜ Written classesAt (headByte (machine .states) (machine .classes)) (now (room .entry)) (now (room .exit)) ⌝ }
+{
+    room[0] = machine.states as u8;
+    room[1] = machine.classes as u8;
+}
 
 // Whether the bytes from `from` up to `to` are below the limit.
-fn are_below(room: &[u8], from: usize, to: usize, limit: u8) -> bool
+fn are_below(room: &[u8], from: usize, to: usize, limit: usize) -> bool
     requires { ⌜ (to ≤ length (now room)) × (0 < limit) ⌝ }
     ensures { λ r. ⌜ Decides r (Below (now (room .entry)) from to limit) ⌝ }
 {
-    slices::greatest(room, from, to) < limit
+    (slices::greatest(room, from, to) as usize) < limit
 }
 
 // Whether a room is sound. The tail of a longer one is not read.
@@ -24,8 +44,9 @@ pub fn is_sound(room: &[u8]) -> bool
     if room.len() < Machine::ROOM {
         return false;
     }
-    let n = room[0] as usize;
-    let k = room[1] as usize;
+    let machine = head(room);
+    let n = machine.states;
+    let k = machine.classes;
     if n < 1 {
         return false;
     }
@@ -40,10 +61,10 @@ pub fn is_sound(room: &[u8]) -> bool
     }
     let marks_end = Machine::MARKS_AT + n;
     let cells_end = Machine::CELLS_AT + n * k;
-    are_below(room, Machine::CLASSES_AT, Machine::MARKS_AT, room[1])
+    are_below(room, Machine::CLASSES_AT, Machine::MARKS_AT, k)
         && are_below(room, Machine::MARKS_AT, marks_end, 2)
         && are_below(room, marks_end, Machine::CELLS_AT, 1)
-        && are_below(room, Machine::CELLS_AT, cells_end, room[0])
+        && are_below(room, Machine::CELLS_AT, cells_end, n)
         && slices::are_zero(room, cells_end, Machine::ROOM)
 }
 
@@ -53,7 +74,7 @@ pub fn cell(room: &[u8], q: usize, class: u8) -> usize
     requires { ⌜ (q < statesOf (now room)) × (class < classesOf (now room)) ⌝ }
     ensures { λ r. ⌜ (r ≡ cellOf (now (room .entry)) q class) × (r < statesOf (now (room .entry))) ⌝ }
 {
-    let k = room[1] as usize;
+    let k = head(room).classes;
     room[Machine::CELLS_AT + (q * k + class as usize)] as usize
 }
 
@@ -64,24 +85,4 @@ pub fn step(room: &[u8], q: usize, b: u8) -> usize
     ensures { λ r. ⌜ (r ≡ nextOf (now (room .entry)) q b) × (r < statesOf (now (room .entry))) ⌝ }
 {
     cell(room, q, room[Machine::CLASSES_AT + b as usize])
-}
-
-// Marks the states that some string leads to acceptance.
-pub fn live(room: &[u8]) -> [u8; Machine::STATES]
-    requires { ⌜ Sound (now room) ⌝ }
-    ensures { λ r. ⌜ LiveMarks (now (room .entry)) r ⌝ }
-{
-    let classes = marks::holding(room);
-    let list = classes.list;
-    let count = classes.count;
-    let mut live = marks::accepting(room);
-    loop {
-        let swept = marks::sweep(room, &list, count, live);
-        let added = swept.added;
-        live = swept.marks;
-        if added == 0 {
-            break;
-        }
-    }
-    live
 }

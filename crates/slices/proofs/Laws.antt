@@ -8,7 +8,7 @@
 --   zeros-none, zeros-more, zeros-join: of no elements; of one more; of two adjoining parts
 --   zeros-decide, greatest-decide: a test of such an x, or of the greatest element, for 0
 --   most-three: a test of three adjoining parts, of which the middle one comes first
---   part-all: a part that goes to the end is what is left
+--   part-all, written-part: a part that goes to the end is what is left; what is copied from it
 --   cleared-after: the scratch in the end, whatever was written before; all-kept, of scope: what is not touched
 use Prim.Native.Nat.{ℕ, _+_, _-_, _≤_, _<_}
 use mathlib.Core.Path.{_≡_, refl, _∙_}
@@ -21,7 +21,7 @@ use borrow.Author.Tests.{eqb-true, eqb-false}
 use lib.Bits.{bitOr, or-add-and, and-le-l, and-le-r}
 use lib.Dec.{eqb}
 use lib.ListN.{length, getD, set, take, drop, length-set, length-drop}
-use lib.Seq.{getD-set-same, getD-set-other, take-all}
+use lib.Seq.{getD-set-same, getD-set-other, getD-drop, take-all}
 use Rattle.scope.specs.Limits.{scratchBytes, scratchWords}
 use Rattle.scope.specs.Buffers.{Written, TailKept, Cleared}
 pub use Rattle.scope.proofs.Buffers.{all-kept}
@@ -140,3 +140,7 @@ cleared-after h k s t c = record { bytes-zero = over h s (c .bytes-zero); words-
 -- a part from a on that goes to the end is what is left
 pub part-all : (a : ℕ) (s : List ℕ) → take (length s - a) (drop a s) ≡ drop a s
 part-all a s = take-all (length s - a) (drop a s) (omega (arith, length-drop a s))
+
+-- what is copied from such a part
+pub written-part : {n : ℕ} {old new : List ℕ} (a : ℕ) (s : List ℕ) → Written n (λ i. getD (take (length s - a) (drop a s)) i 0) old new → Written n (λ i. getD s (a + i) 0) old new
+written-part a s w = record { size = w .size; inside = λ i h. w .inside i h ∙ rw (part-all a s) (getD-drop a s i 0); outside = w .outside }

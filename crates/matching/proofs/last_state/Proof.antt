@@ -10,16 +10,16 @@ use Rattle.matching.proofs.last_state.Statement.{statement}
 use Rattle.matching.proofs.last_state.Tie as tie
 
 abbrev Inv-loop : tie.InvT-loop
-Inv-loop room text cells q₀ i₀ q i = At (machine room) text i q
+Inv-loop room text cells k q₀ i₀ q i = At (machine room) text i q
 
 abbrev μ-loop : tie.MeasureT-loop
-μ-loop room text cells q₀ i₀ q i = length text - i
+μ-loop room text cells k q₀ i₀ q i = length text - i
 
 loop-holds : tie.Need-loop-holds Inv-loop μ-loop
 loop-holds c = at-start (search needs)
 
 step-requires : tie.Need-step-requires Inv-loop μ-loop
-step-requires c κs = (search needs, search needs, part-all cellsAt (c .before .before .before .before .before .before .args .room .now))
+step-requires c κs = (search needs, search needs, search needs, part-all cellsAt (c .before .before .before .before .before .before .before .args .room .now))
 
 loop-again : tie.Need-loop-again Inv-loop μ-loop
 loop-again c = at-more (c .before .before .before .loop .inv) (search needs) (c .step .ensures)
@@ -36,6 +36,7 @@ last-state-spec =
     (λ c. search needs)
     (λ c. search needs)
     (λ c. search needs)
+    (λ c κs. search needs)
     loop-holds
     (λ c. search needs)
     step-requires

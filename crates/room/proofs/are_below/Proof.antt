@@ -9,6 +9,9 @@ use Rattle.room.proofs.are_below.Tie as tie
 greatest-requires : tie.Need-greatest-requires
 greatest-requires c κs = search needs
 
+cast-result : tie.Need-cast-result
+cast-result c = search needs
+
 returns : tie.Need-returns
 returns c = let a = c .before .before .args in
     record {
@@ -17,4 +20,4 @@ returns c = let a = c .before .before .args in
     }
 
 pub are-below-spec : {M : Type 1} → statement M
-are-below-spec = tie.close (tie.spec greatest-requires returns)
+are-below-spec = tie.close (tie.spec greatest-requires cast-result returns)

@@ -1,41 +1,38 @@
 -- The cell is in the room, and holds a state.
-use mathlib.Core.Path.{refl}
 use native.Mathlib.Omega.{arith}
 use borrow.Author.Needs.{needs}
-use Rattle.room.proofs.Laws.{cell-known}
+use Rattle.room.proofs.Laws.{CellAt, cell-at}
 use Rattle.room.proofs.cell.Statement.{statement}
 use Rattle.room.proofs.cell.Tie as tie
+use Rattle.room.proofs.cell.Reads as reads
+use Rattle.room.proofs.cell.Lts as lts
+use Rattle.room.proofs.head.Reads as head-reads
 
-shared-slice-read-k : tie.Need-shared-slice-read-k
-shared-slice-read-k c = search needs
+head-requires : tie.Need-head-requires
+head-requires c κs = search needs
 
-cast-k : tie.Need-cast-k
-cast-k c = search needs
+-- its place, by the head that was read
+place : (c : lts.After-head (head-reads.Asked, head-reads.Learnt) reads.Pre reads.Post)
+    → CellAt (c .before .before .args .room .now) (c .before .before .args .q) (c .head .result .classes) (c .before .before .args .class)
+place c = let s = c .before .before in cell-at (s .pre .0) (c .head .ensures .1) (s .pre .1 .0) (s .pre .1 .1)
 
 mul-result : tie.Need-mul-result
-mul-result c = let s = c .before in
-    omega (arith, cell-known (s .pre .0) (s .args .q) (s .args .class) (search needs) (search needs))
+mul-result c = omega (arith, place c .fits)
 
 add-result : tie.Need-add-result
-add-result c = let s = c .before in
-    omega (arith, cell-known (s .pre .0) (s .args .q) (s .args .class) (search needs) (search needs))
+add-result c = omega (arith, place c .fits)
 
 add-result-2 : tie.Need-add-result-2
-add-result-2 c = let s = c .before in
-    omega (arith, cell-known (s .pre .0) (s .args .q) (s .args .class) (search needs) (search needs))
+add-result-2 c = omega (arith, place c .fits)
 
 shared-slice-read-result : tie.Need-shared-slice-read-result
-shared-slice-read-result c = let s = c .before .before in
-    omega (arith, cell-known (s .pre .0) (s .args .q) (s .args .class) (search needs) (search needs))
+shared-slice-read-result c = omega (arith, place (c .before) .fits)
 
 cast-result : tie.Need-cast-result
-cast-result c = let s = c .before .before in
-    omega (arith, cell-known (s .pre .0) (s .args .q) (s .args .class) (search needs) (search needs))
+cast-result c = let p = place (c .before) in omega (arith, p .inside, c .before .before .before .pre .0 .few-states)
 
 returns : tie.Need-returns
-returns c = let s = c .before .before in
-    (refl, cell-known (s .pre .0) (s .args .q) (s .args .class) (search needs) (search needs) .1)
+returns c = (place (c .before) .is, place (c .before) .inside)
 
 pub cell-spec : {M : Type 1} → statement M
-cell-spec =
-    tie.close (tie.spec shared-slice-read-k cast-k mul-result add-result add-result-2 shared-slice-read-result cast-result returns)
+cell-spec = tie.close (tie.spec head-requires mul-result add-result add-result-2 shared-slice-read-result cast-result returns)

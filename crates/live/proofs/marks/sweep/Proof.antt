@@ -3,9 +3,9 @@ use Prim.Native.Nat.{_-_}
 use mathlib.Core.Path.{_≡_}
 use native.Mathlib.Omega.{arith}
 use borrow.Author.Needs.{needs}
-use Rattle.room.proofs.Alive.{Passed, passed-none, passed-on, passed-new, passed-all}
-use Rattle.room.proofs.marks.sweep.Statement.{statement}
-use Rattle.room.proofs.marks.sweep.Tie as tie
+use Rattle.live.proofs.Alive.{Passed, passed-none, passed-on, passed-new, passed-all}
+use Rattle.live.proofs.marks.sweep.Statement.{statement}
+use Rattle.live.proofs.marks.sweep.Tie as tie
 
 abbrev Inv-loop : tie.InvT-loop
 Inv-loop room list count marks₀ added₀ q₀ marks added q = Passed room marks₀ marks added q
@@ -13,14 +13,11 @@ Inv-loop room list count marks₀ added₀ q₀ marks added q = Passed room mark
 abbrev μ-loop : tie.MeasureT-loop
 μ-loop room list count marks₀ added₀ q₀ marks added q = q
 
-shared-slice-read-q : tie.Need-shared-slice-read-q Inv-loop μ-loop
-shared-slice-read-q c = search needs
-
-cast-q : tie.Need-cast-q Inv-loop μ-loop
-cast-q c = search needs
+head-requires : tie.Need-head-requires Inv-loop μ-loop
+head-requires c κs = search needs
 
 loop-holds : tie.Need-loop-holds Inv-loop μ-loop
-loop-holds c = passed-none (c .before .before .pre .1 .1)
+loop-holds c = rw (c .head .ensures .0) (passed-none (c .before .before .pre .1 .1))
 
 sub-q : tie.Need-sub-q Inv-loop μ-loop
 sub-q c = search needs
@@ -74,8 +71,7 @@ sweep-spec =
     (tie.spec
     Inv-loop
     μ-loop
-    shared-slice-read-q
-    cast-q
+    head-requires
     loop-holds
     sub-q
     array-read-if1

@@ -6,9 +6,9 @@ use native.Mathlib.Omega.{arith}
 use borrow.Author.Needs.{needs}
 use borrow.Author.Tests.{ltb-false}
 use Rattle.scope.specs.Limits.{classesAt, marksAt}
-use Rattle.room.proofs.Listed.{Listed, listed-none, listed-old, listed-new, class-fits, list-fits, listed-holding, listed-full}
-use Rattle.room.proofs.marks.holding.Statement.{statement}
-use Rattle.room.proofs.marks.holding.Tie as tie
+use Rattle.live.proofs.Listed.{Listed, listed-none, listed-old, listed-new, class-fits, list-fits, listed-holding, listed-full}
+use Rattle.live.proofs.marks.holding.Statement.{statement}
+use Rattle.live.proofs.marks.holding.Tie as tie
 
 abbrev Inv-loop : tie.InvT-loop
 Inv-loop room k seen₀ list₀ count₀ i₀ seen list count i = (classesAt ≤ i) × (i ≤ marksAt) × Listed room seen list count i
@@ -16,17 +16,14 @@ Inv-loop room k seen₀ list₀ count₀ i₀ seen list count i = (classesAt ≤
 abbrev μ-loop : tie.MeasureT-loop
 μ-loop room k seen₀ list₀ count₀ i₀ seen list count i = marksAt - i
 
-cast-k : tie.Need-cast-k Inv-loop μ-loop
-cast-k c = omega (arith, c .shared-slice-known .given 1)
-
 loop-holds : tie.Need-loop-holds Inv-loop μ-loop
 loop-holds c = (search needs, search needs, listed-none _)
 
 cast-if2 : tie.Need-cast-if2 Inv-loop μ-loop
-cast-if2 c = omega (arith, class-fits (c .before .before .before .before .before .pre) (c .before .before .before .loop .i) (search needs) (search needs))
+cast-if2 c = omega (arith, class-fits (c .before .before .before .before .before .before .pre) (c .before .before .before .loop .i) (search needs) (search needs))
 
 array-read-if2 : tie.Need-array-read-if2 Inv-loop μ-loop
-array-read-if2 c = class-fits (c .before .before .before .before .before .pre) (c .before .before .before .loop .i) (search needs) (search needs)
+array-read-if2 c = class-fits (c .before .before .before .before .before .before .pre) (c .before .before .before .loop .i) (search needs) (search needs)
 
 cast-seen : tie.Need-cast-seen Inv-loop μ-loop
 cast-seen c = cast-if2 (c .before)
@@ -35,7 +32,7 @@ array-write-seen : tie.Need-array-write-seen Inv-loop μ-loop
 array-write-seen c = array-read-if2 (c .before)
 
 array-write-list : tie.Need-array-write-list Inv-loop μ-loop
-array-write-list c = list-fits (c .before .before .before .before .before .before .pre) (search needs) (search needs) (c .if2 .taken) (c .before .before .before .before .loop .inv .2)
+array-write-list c = list-fits (c .before .before .before .before .before .before .before .pre) (search needs) (search needs) (c .if2 .taken) (c .before .before .before .before .loop .inv .2)
 
 add-count : tie.Need-add-count Inv-loop μ-loop
 add-count c = omega (arith, array-write-list c)
@@ -46,12 +43,14 @@ loop-again c =
       search needs,
       search needs,
       ⊎-elim
-          (λ w. rw (w .1, w .2, w .3) (listed-new (c .before .before .before .before .before .before .pre) (search needs) (search needs) (w .0 .taken) v))
+          (λ w. rw (w .1, w .2, w .3) (listed-new (c .before .before .before .before .before .before .before .pre) (search needs) (search needs) (w .0 .taken) v))
           (λ w. rw (w .1, w .2, w .3) (listed-old (w .0 .left) v)) (c .if2 .came),
     )
 
 returns : tie.Need-returns Inv-loop μ-loop
-returns c = listed-full (c .before .before .before .before .pre) (c .before .before .loop .inv .2) (ltb-false _ _ (c .if1 .left))
+returns c =
+    let h = c .before .before .before in
+    listed-full (h .before .before .pre) (c .before .before .loop .inv .2) (omega (arith, ltb-false (c .before .before .loop .count) (h .head .result .classes) (c .if1 .left), h .head .ensures .1))
 
 returns-2 : tie.Need-returns-2 Inv-loop μ-loop
 returns-2 c = let e : c .before .loop .i ≡ marksAt = omega arith in listed-holding (rw e at (c .before .loop .inv .2))
@@ -62,8 +61,7 @@ holding-spec =
     (tie.spec
     Inv-loop
     μ-loop
-    (λ c. search needs)
-    cast-k
+    (λ c κs. search needs)
     loop-holds
     (λ c. search needs)
     cast-if2

@@ -6,7 +6,7 @@ ghost use lib.ListN.{length};
 ghost use Rattle.scope.specs.Limits.{stateLimit};
 ghost use Rattle.scope.specs.Room.{statesOf, Sound};
 ghost use Rattle.slices.specs.Parts.{Decides};
-ghost use Rattle.room.specs.Live.{Holding, Marks, Leads, Swept};
+ghost use Rattle.live.specs.Live.{Holding, Marks, Leads, Swept};
 
 // The first `count` are the classes that hold a byte.
 pub struct Classes {
@@ -19,7 +19,7 @@ pub fn holding(room: &[u8]) -> Classes
     requires { ⌜ Sound (now room) ⌝ }
     ensures { λ r. ⌜ Holding (now (room .entry)) (r .list) (r .count) ⌝ }
 {
-    let k = room[1] as usize;
+    let k = room::head(room).classes;
     let mut seen = [0u8; Machine::CLASSES];
     let mut list = [0u8; Machine::CLASSES];
     let mut count: usize = 0;
@@ -45,11 +45,7 @@ pub fn accepting(room: &[u8]) -> [u8; Machine::STATES]
     ensures { λ r. ⌜ Marks (now (room .entry)) r ⌝ }
 {
     let mut marks = [0u8; Machine::STATES];
-    let mut q: usize = 0;
-    while q < Machine::STATES {
-        marks[q] = room[Machine::MARKS_AT + q];
-        q += 1;
-    }
+    slices::copy(&room[Machine::MARKS_AT..], &mut marks, Machine::STATES);
     marks
 }
 
@@ -68,7 +64,7 @@ pub fn leads(
 {
     let mut i: usize = 0;
     while i < count {
-        let next = super::cell(room, q, list[i]);
+        let next = room::cell(room, q, list[i]);
         if marks[next] == 1 {
             return true;
         }
@@ -97,7 +93,7 @@ pub fn sweep(
 {
     let mut marks = marks;
     let mut added: usize = 0;
-    let mut q = room[0] as usize;
+    let mut q = room::head(room).states;
     while q > 0 {
         q -= 1;
         if marks[q] == 0 {

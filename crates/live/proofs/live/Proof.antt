@@ -3,10 +3,10 @@ use Prim.Native.Nat.{_-_}
 use native.Mathlib.Omega.{arith}
 use borrow.Author.Needs.{needs}
 use Rattle.scope.specs.Limits.{stateLimit}
-use Rattle.room.specs.Live.{Marks, ones}
-use Rattle.room.proofs.Alive.{ones-most, live-all}
-use Rattle.room.proofs.live.Statement.{statement}
-use Rattle.room.proofs.live.Tie as tie
+use Rattle.live.specs.Live.{Marks, ones}
+use Rattle.live.proofs.Alive.{ones-most, live-all}
+use Rattle.live.proofs.live.Statement.{statement}
+use Rattle.live.proofs.live.Tie as tie
 
 abbrev Inv-loop : tie.InvT-loop
 Inv-loop room list count live₀ live = Marks room live

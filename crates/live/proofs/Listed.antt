@@ -16,8 +16,8 @@ use lib.Seq.{getD-set-same, getD-set-other}
 use Rattle.scope.specs.Limits.{byteValues, classLimit, classesAt, marksAt}
 use Rattle.scope.specs.Room.{classesOf, classOf, cellOf, nextOf, Sound}
 use Rattle.scope.proofs.Lists.{zeros}
-use Rattle.room.specs.Live.{Holding, Leads, ones}
-use Rattle.room.proofs.Alive.{ones-set, ones-most, ones-below}
+use Rattle.live.specs.Live.{Holding, Leads, ones}
+use Rattle.live.proofs.Alive.{ones-set, ones-most, ones-below}
 
 pub record Listed (m seen l : List ℕ) (n i : ℕ) : Type 0 where
   pub size : length l ≡ classLimit

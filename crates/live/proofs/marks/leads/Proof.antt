@@ -7,9 +7,9 @@ use borrow.Author.Needs.{needs}
 use lib.ListN.{getD}
 use Rattle.scope.specs.Room.{cellOf}
 use Rattle.slices.proofs.Laws.{holds, fails}
-use Rattle.room.proofs.Listed.{class-below, leads-by, leads-not}
-use Rattle.room.proofs.marks.leads.Statement.{statement}
-use Rattle.room.proofs.marks.leads.Tie as tie
+use Rattle.live.proofs.Listed.{class-below, leads-by, leads-not}
+use Rattle.live.proofs.marks.leads.Statement.{statement}
+use Rattle.live.proofs.marks.leads.Tie as tie
 
 abbrev Inv-loop : tie.InvT-loop
 Inv-loop room list count marks q i₀ i = (i ≤ count) × ((j : ℕ) → j < i → getD marks (cellOf room q (getD list j 0)) 0 ≡ 1 → ⊥)

@@ -16,12 +16,12 @@ use lib.ListN.{length, getD, set, length-set, List·getD-eq-default}
 use lib.Seq.{getD-set-same, getD-set-other}
 use Rattle.scope.specs.Limits.{byteValues, stateLimit, marksAt}
 use Rattle.scope.specs.Bytes.{Bytes}
+use Rattle.scope.specs.Buffers.{Written}
 use Rattle.scope.specs.Machine.{run}
 use Rattle.scope.specs.Room.{statesOf, markOf, nextOf, machine, Sound}
 use Rattle.scope.proofs.Tests.{split, equals}
 use Rattle.scope.proofs.Run.{sound-closed}
-use Rattle.slices.specs.Parts.{Stored}
-use Rattle.room.specs.Live.{Live, Marks, LiveMarks, Leads, Settled, ones, Swept}
+use Rattle.live.specs.Live.{Live, Marks, LiveMarks, Leads, Settled, ones, Swept}
 
 -- an accepting state is live
 pub live-here : (m : List ℕ) (q : ℕ) → markOf m q ≡ 1 → Live (machine m) q
@@ -33,15 +33,15 @@ live-there m q b h l = record { word = b ∷ l .word; bytes = (h, l .bytes); acc
 
 -- ---- the accept marks
 
-module _ (m z l : List ℕ) (s : Sound m) (e : length z ≡ stateLimit) (w : Stored z l 0 stateLimit (markOf m)) where
+module _ (m z l : List ℕ) (s : Sound m) (e : length z ≡ stateLimit) (w : Written stateLimit (markOf m) z l) where
   beyond : (q : ℕ) → statesOf m ≤ q → getD l q 0 ≡ 0
   beyond q h = elim (split q stateLimit) [
-    | inl x ↦ omega (arith, w .inside q x (omega arith), s .marks-off (marksAt + q) (omega arith) (omega arith))
-    | inr x ↦ w .outside q (inr x) ∙ List·getD-eq-default z 0 (omega arith)
+    | inl x ↦ omega (arith, w .inside q x, s .marks-off (marksAt + q) (omega arith) (omega arith))
+    | inr x ↦ w .outside q x ∙ List·getD-eq-default z 0 (omega arith)
   ]
 
   within : (q : ℕ) → q < statesOf m → getD l q 0 ≡ markOf m q
-  within q h = w .inside q (omega (arith, s .few-states)) (omega arith)
+  within q h = w .inside q (omega (arith, s .few-states))
 
   -- the accept marks of a sound room are marks
   pub marks-accepting : Marks m l
