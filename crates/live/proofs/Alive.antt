@@ -2,7 +2,7 @@
 -- marked. Each other sweep raises the number of marks, which is at most 128.
 --   live-here, live-there: an accepting state is live, and one that a byte leads to a live one
 --   marks-accepting: the accept marks of a sound room are marks
---   ones-set, ones-most, ones-below: one mark more; at most as many as there are places, or as those below which all are
+--   ones-set, ones-most: one mark more; at most as many as there are places
 --   Passed m l₀ l added q: a sweep that came down to the state q; passed-none, passed-on, passed-new, passed-all: it begins, passes a state by, marks it, ends
 --   live-all: settled marks are those of all live states
 use Prim.Native.Nat.{ℕ, zero, suc, _+_, _-_, _≤_, _<_}
@@ -71,12 +71,6 @@ ones-set l i h e = omega (arith, ones-suc l i h e)
 pub ones-most : (l : List ℕ) → ((i : ℕ) → getD l i 0 < 2) → ones l ≤ length l
 ones-most [] h = omega arith
 ones-most (x ∷ l) h = omega (arith, h 0, ones-most l (λ i. h (suc i)))
-
--- marks below k alone: at most k
-pub ones-below : (l : List ℕ) (k : ℕ) → ((i : ℕ) → getD l i 0 < 2) → ((i : ℕ) → k ≤ i → getD l i 0 ≡ 0) → ones l ≤ k
-ones-below [] k h z = omega arith
-ones-below (x ∷ l) zero h z = omega (arith, z 0 (omega arith), ones-below l zero (λ i. h (suc i)) (λ i g. z (suc i) (omega arith)))
-ones-below (x ∷ l) (suc k) h z = omega (arith, h 0, ones-below l k (λ i. h (suc i)) (λ i g. z (suc i) (omega arith)))
 
 -- a state that leads to a marked one may be marked
 marks-set : (m l : List ℕ) (q : ℕ) → q < statesOf m → Sound m → Marks m l → Leads m l q → Marks m (set l q 1)

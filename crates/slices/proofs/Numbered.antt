@@ -1,7 +1,7 @@
 -- Numbering on first arrival. A thing more has a number already, or takes the next and leads it; what was read before keeps its number, though it may stand in other
 -- buffers.
 --   found-here, found-none: the first that has P; none has
---   numbered-same: the same numbers, keys and leads
+--   numbered-none, numbered-same: nothing is read; the same numbers, keys and leads
 --   numbered-old, numbered-new: a thing more, with a number that is given, or with the next
 --   numbered-arrival: they number on first arrival, as scope says it
 --   lead-one, numbered-one: where R is an equivalence, leads that are alike are one, and things are alike exactly if they have one number
@@ -28,6 +28,16 @@ pub found-none : {P : ℕ → Type 0} {k : ℕ} → ((j : ℕ) → j < k → P j
 found-none n = record { most = omega arith; has = λ l. absurd (omega arith); none = n }
 
 -- ---- one thing more
+
+-- nothing is read
+pub numbered-none : {R : ℕ → ℕ → Type 0} {key number lead : ℕ → ℕ} {from : ℕ} → from ≤ 1 → Numbered R key number lead from from 0
+numbered-none h = record {
+  some = omega arith;
+  below = λ x l. absurd (omega arith);
+  like = λ x l. absurd (omega arith);
+  apart = λ v w l g. absurd (omega arith);
+  came = λ v l g. absurd (omega arith);
+}
 
 -- key′, number′, lead′: the same, where they were known
 module _ {R : ℕ → ℕ → Type 0} {key number lead : ℕ → ℕ} {from k e : ℕ} (n : Numbered R key number lead from k e) (key′ number′ lead′ : ℕ → ℕ)

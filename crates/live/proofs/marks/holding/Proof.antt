@@ -32,28 +32,29 @@ array-write-seen : tie.Need-array-write-seen Inv-loop μ-loop
 array-write-seen c = array-read-if2 (c .before)
 
 array-write-list : tie.Need-array-write-list Inv-loop μ-loop
-array-write-list c = list-fits (c .before .before .before .before .before .before .before .pre) (search needs) (search needs) (c .if2 .taken) (c .before .before .before .before .loop .inv .2)
+array-write-list c = list-fits (c .before .before .before .before .before .before .before .pre) (search needs) (search needs) (c .before .before .before .before .loop .inv .2) (c .if2 .taken)
 
 add-count : tie.Need-add-count Inv-loop μ-loop
 add-count c = omega (arith, array-write-list c)
 
 loop-again : tie.Need-loop-again Inv-loop μ-loop
 loop-again c =
+    let sound = c .before .before .before .before .before .before .before .pre in
     let v = c .before .before .before .before .loop .inv .2 in (
       search needs,
       search needs,
       ⊎-elim
-          (λ w. rw (w .1, w .2, w .3) (listed-new (c .before .before .before .before .before .before .before .pre) (search needs) (search needs) (w .0 .taken) v))
-          (λ w. rw (w .1, w .2, w .3) (listed-old (w .0 .left) v)) (c .if2 .came),
+          (λ w. rw (w .1, w .2, w .3) (listed-new sound (search needs) (search needs) v (w .0 .taken)))
+          (λ w. rw (w .1, w .2, w .3) (listed-old sound (search needs) (search needs) v (w .0 .left))) (c .if2 .came),
     )
 
 returns : tie.Need-returns Inv-loop μ-loop
 returns c =
     let h = c .before .before .before in
-    listed-full (h .before .before .pre) (c .before .before .loop .inv .2) (omega (arith, ltb-false (c .before .before .loop .count) (h .head .result .classes) (c .if1 .left), h .head .ensures .1))
+    listed-full (h .before .before .pre) (search needs) (c .before .before .loop .inv .2) (omega (arith, ltb-false (c .before .before .loop .count) (h .head .result .classes) (c .if1 .left), h .head .ensures .1))
 
 returns-2 : tie.Need-returns-2 Inv-loop μ-loop
-returns-2 c = let e : c .before .loop .i ≡ marksAt = omega arith in listed-holding (rw e at (c .before .loop .inv .2))
+returns-2 c = let s = c .before .before .before .before in listed-holding (s .pre) (search needs) (c .before .loop .inv .2) (omega arith)
 
 pub holding-spec : {M : Type 1} → statement M
 holding-spec =
