@@ -12,11 +12,11 @@ use lib.Dec.{eqb}
 use Rattle.scope.specs.Limits.{classesAt, marksAt, cellsAt}
 use Rattle.scope.specs.Machine.{Machine, Same, Closed}
 use Rattle.scope.specs.Room.{statesOf, classesOf, classOf, nextOf, machine, Sound}
-use Rattle.scope.specs.Rounds.{aside, Rounds}
+use Rattle.scope.specs.Rounds.{aside, Rounds, Enough}
 use Rattle.scope.proofs.Tests.{split, below}
 use Rattle.scope.proofs.Room.{cell-used}
 use Rattle.scope.proofs.Agree.{Agree, agree-closed, agree-same, agree-rounds}
-use Rattle.scope.proofs.Rounds.{Enough, rounds-enough}
+use Rattle.scope.proofs.Rounds.{rounds-enough}
 use Rattle.scope.proofs.Aside.{aside-closed, left-run, right-run}
 use Rattle.sides.specs.Side.{side}
 use Rattle.parts.specs.Refined.{Refined}

@@ -24,6 +24,7 @@ use Rattle.scope.specs.Re.{Re, Words}
 use Rattle.scope.specs.Room.{machine}
 use Rattle.scope.specs.Tree.{expr}
 use Rattle.slices.specs.Parts.{Stored}
+use Rattle.scope.proofs.Buffers.{tail-then, tail-within}
 use Rattle.slices.proofs.Laws.{all-kept, part-all}
 use Rattle.sets.specs.Value.{value, setAt, Put}
 use Rattle.sets.proofs.Words.{put-other}
@@ -95,10 +96,11 @@ pub answered :
     {s room room′ b b₁ b₂ w w₁ w₂ : List ℕ} {r : Shape} {count last number place : ℕ} {null : Bool} {a : Built} → Reads s b b₁ w w₁ r
     → Builds b₁ w₁ count last null b₂ w₂ a → ((b′ w′ : List ℕ) → Cleared b b′ w w′ → Compiles s room room′ b b′ w w′ number place)
     → Answers s room room′ b b₂ w w₂ number place
-answered x y z = record { bytes-kept = over (x .bytes-kept) (y .bytes-kept) (omega arith) (omega arith); words-kept = over (x .words-kept) (y .words-kept) (omega arith) (omega arith); cleared = z }
-  where
-    over : {n k m : ℕ} {a b c : List ℕ} → TailKept n a b → TailKept k b c → n ≤ m → k ≤ m → TailKept m a c
-    over s t h l = record { size = t .size ∙ s .size; outside = λ i g. t .outside i (omega arith) ∙ s .outside i (omega arith) }
+answered x y z = record {
+  bytes-kept = tail-then (tail-within (omega arith) (x .bytes-kept)) (tail-within (omega arith) (y .bytes-kept));
+  words-kept = tail-then (tail-within (omega arith) (x .words-kept)) (tail-within (omega arith) (y .words-kept));
+  cleared = z;
+}
 
 -- a canonical machine for the same strings has the same words
 pub recognised : {e : Re} {m m′ : List ℕ} → Made e m → Canonical m′ → Equal (machine m) (machine m′) → Recognises (machine m′) (Words e)

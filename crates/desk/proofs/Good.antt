@@ -20,7 +20,7 @@ use lib.Seq.{take-nil, take-length, take-suc, getD-take, getD-append-seam}
 use Rattle.scope.specs.Bytes.{Bytes}
 use Rattle.scope.specs.Limits.{byteValues}
 use Rattle.scope.proofs.Tests.{split, equals}
-use Rattle.scope.proofs.Run.{bytes-append}
+use Rattle.scope.proofs.Run.{bytes-append, bytes-take}
 use Rattle.forms.specs.Text.{BACK, CLOSE, Literal, roomOf, IsAccepted, IsDead}
 use Rattle.forms.specs.Form.{textLimit}
 use Rattle.forms.specs.Test.{Kept}
@@ -77,13 +77,7 @@ module _ {rooms : List ℕ} {n : ℕ} where
 
 -- ---- prefixes, and one byte more
 
--- a prefix is of bytes
-bytes-take : (i : ℕ) (t : List ℕ) → Bytes t → Bytes (take i t)
-bytes-take zero t g = tt
-bytes-take (suc i) [] g = tt
-bytes-take (suc i) (b ∷ t) g = (g .0, bytes-take i t (g .1))
-
--- and has no keys in it
+-- a prefix has no keys in it
 literals-take : (n : ℕ) (t : List ℕ) → Literals t → Literals (take n t)
 literals-take n t l i h = rw (getD-take n t i 0 (omega (arith, length-take n t))) (l i (omega (arith, length-take n t)))
 

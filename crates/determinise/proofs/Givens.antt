@@ -23,10 +23,11 @@ use Rattle.scope.specs.Bits.{has, given, holders, final}
 use Rattle.scope.specs.Buffers.{TailKept, Scratch}
 use Rattle.scope.specs.Count.{Over}
 use Rattle.scope.specs.Reached.{Share, ManyClasses, FewClasses}
+use Rattle.scope.specs.Tests.{Tests}
 use Rattle.scope.proofs.Bits.{holders-is, has-given, has-pow}
 use Rattle.scope.proofs.Glushkov.{at-in}
 use Rattle.scope.proofs.Moves.{same-bits, joined-is}
-use Rattle.scope.proofs.Tests.{Tests, and, itself, equals, same-test, bit-same}
+use Rattle.scope.proofs.Tests.{and, itself, equals, same-test, bit-same}
 use Rattle.scope.proofs.Buffers.{all-kept}
 use Rattle.slices.proofs.Laws.{part-all}
 use Rattle.classes.specs.Layout.{bitAt, holds}

@@ -21,8 +21,9 @@ use Rattle.scope.specs.Room.{Sound}
 use Rattle.scope.specs.Form.{value, fields, formBits, formLength, formByte, FormOf}
 use Rattle.scope.proofs.Tests.{split}
 use Rattle.scope.proofs.Form.{fields-length, form-bits}
-use Rattle.scope.proofs.Fields.{from, Holds, value-ext, value-lt, value-join, value-one, fields-at, fields-are}
-use Rattle.scope.proofs.Laid.{Laid, endBit, form-laid, laid-ext}
+use Rattle.scope.specs.Laid.{from, Holds, Laid, endBit}
+use Rattle.scope.proofs.Fields.{value-ext, value-lt, value-join, value-one, fields-at, fields-are}
+use Rattle.scope.proofs.Laid.{form-laid, laid-ext}
 use Rattle.fields.specs.Fields.{roomBit, formBit}
 
 -- a field of w bits is below 2 ^ w

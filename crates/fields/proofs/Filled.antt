@@ -11,11 +11,12 @@ use native.Mathlib.Omega.{arith}
 use lib.Pow.{high, low as low-bits}
 use lib.ListN.{length, getD, set}
 use Rattle.scope.specs.Form.{value}
-use Rattle.scope.proofs.Fields.{from, Holds, value-lt}
+use Rattle.scope.specs.Laid.{from, Holds}
+use Rattle.scope.proofs.Fields.{value-lt}
 use Rattle.fields.specs.Fields.{byteOf, Ahead}
 use Rattle.fields.specs.Filled.{Filled, Ready, Puts, Passes, Due}
 use Rattle.fields.specs.declared.packing.Filling.{Filling}
-use Rattle.fields.proofs.Buffers.{written-more}
+use Rattle.slices.proofs.Laws.{written-more}
 use Rattle.fields.proofs.Fields.{holds-lt, holds-join, next-field, room-for}
 
 module _ {b : ℕ → ℕ} {old out : List ℕ} {p : ℕ} {s : Filling} (f : Filled b old out p s) where

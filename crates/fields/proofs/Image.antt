@@ -13,13 +13,14 @@ use native.Mathlib.Omega.{arith}
 use lib.ListN.{length, getD, take, drop}
 use lib.Seq.{getD-take, getD-drop, ext-getD}
 use Rattle.scope.specs.Limits.{byteValues, classesAt, marksAt, cellsAt, roomBytes}
-use Rattle.scope.specs.Room.{statesOf, classesOf, Sound}
+use Rattle.scope.specs.Room.{statesOf, classesOf, Sound, SameBytes}
 use Rattle.scope.specs.Canonical.{Canonical}
 use Rattle.scope.specs.Form.{value, formBits, formLength, formByte, FormOf}
 use Rattle.scope.proofs.Buffers.{tail-one}
-use Rattle.scope.proofs.Room.{SameBytes, cells-fit}
+use Rattle.scope.proofs.Room.{cells-fit}
 use Rattle.scope.proofs.Form.{part-length}
-use Rattle.scope.proofs.Fields.{from, value-ext}
+use Rattle.scope.specs.Laid.{from}
+use Rattle.scope.proofs.Fields.{value-ext}
 use Rattle.scope.proofs.Laid.{form-laid, framed, laid-one, bits-one}
 use Rattle.scope.proofs.Moved.{sound-moved, canonical-moved}
 use Rattle.fields.specs.Fields.{roomBit, formBit}

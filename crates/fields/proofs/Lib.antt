@@ -1,6 +1,5 @@
 -- Laws that belong to no one function; callers cite those of Image.
 mod Shifts
-mod Buffers
 mod Fields
 mod Filled
 mod Parts

@@ -14,11 +14,12 @@ use Rattle.scope.specs.Room.{statesOf, classesOf, Sound}
 use Rattle.scope.specs.Form.{formLength, formByte}
 use Rattle.scope.specs.Buffers.{Written}
 use Rattle.scope.proofs.Room.{cells-fit}
-use Rattle.scope.proofs.Laid.{Laid, endBit, form-laid}
-use Rattle.fields.specs.Fields.{byteOf, roomBit, classesBit, marksBit}
+use Rattle.scope.specs.Laid.{Laid, endBit, classesBit, marksBit}
+use Rattle.scope.proofs.Laid.{form-laid}
+use Rattle.fields.specs.Fields.{byteOf, roomBit}
 use Rattle.fields.specs.Filled.{Fits, Filled, Ready, Puts, Passes, Due, Ends}
 use Rattle.fields.specs.declared.packing.Filling.{Filling}
-use Rattle.fields.proofs.Buffers.{written-start}
+use Rattle.slices.proofs.Laws.{written-start}
 use Rattle.fields.proofs.Fields.{form-size}
 use Rattle.fields.proofs.Filled.{filled-ready, due}
 

@@ -19,9 +19,8 @@ use Rattle.scope.specs.Limits.{byteValues, classesAt, marksAt, cellsAt, roomByt
 use Rattle.scope.specs.Room.{statesOf, classesOf}
 use Rattle.scope.specs.Buffers.{TailKept, Written}
 use Rattle.scope.proofs.Tests.{split}
-use Rattle.scope.proofs.Fields.{from, Holds}
-use Rattle.scope.proofs.Laid.{endBit}
-use Rattle.fields.specs.Fields.{formBit, classesBit, marksBit, bitsOf}
+use Rattle.scope.specs.Laid.{from, Holds, endBit, classesBit, marksBit}
+use Rattle.fields.specs.Fields.{formBit, bitsOf}
 use Rattle.fields.specs.Image.{Image, Imageless, Named, Shaped, Judged, Took, Blank}
 use Rattle.fields.proofs.Fields.{zeros, all-zero, past, form-bit}
 

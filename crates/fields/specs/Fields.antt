@@ -1,14 +1,13 @@
 -- The bits of a form: a sequence b of bits, 0 past its end.
 --   byteOf b i: the byte i of the bits b
 --   roomBit m, formBit f: the bits of the form of the room m, and of the bytes f
---   classesBit, marksBit: where the classes and the marks begin
 --   bitsOf n k: how many bits the form of a room with n states and k classes has, before filling
 --   Ahead b p w m start n: from the bit p on, b has n fields of w bits, for the bytes of m from `start` on
 use Prim.Native.Nat.{ℕ, _+_, _*_, _<_}
 use mathlib.Core.List.{List}
 use lib.ListN.{getD}
-use Rattle.scope.specs.Form.{value, fields, formBits}
-use Rattle.scope.proofs.Fields.{bitOf, from, Holds}
+use Rattle.scope.specs.Form.{stateBits, value, fields, formBits}
+use Rattle.scope.specs.Laid.{bitOf, from, Holds, marksBit}
 
 abbrev pub byteOf : (ℕ → ℕ) → ℕ → ℕ
 byteOf b i = value 8 (from b (i * 8))
@@ -19,17 +18,9 @@ roomBit m = bitOf (formBits m)
 abbrev pub formBit : List ℕ → ℕ → ℕ
 formBit f = bitOf (fields 8 f)
 
--- the classes stand behind "form number 1 (4 bits); n − 1 (7); k − 1 (6)"
-abbrev pub classesBit : ℕ
-classesBit = 17
-
--- the marks, behind "the class of each byte value (256 × 6)"
-abbrev pub marksBit : ℕ
-marksBit = 1553
-
 -- "That is 1,553 + n + 7·n·k bits before filling."
 abbrev pub bitsOf : ℕ → ℕ → ℕ
-bitsOf n k = marksBit + n + n * k * 7
+bitsOf n k = marksBit + n + n * k * stateBits
 
 abbrev pub Ahead : (ℕ → ℕ) → ℕ → ℕ → List ℕ → ℕ → ℕ → Type 0
 Ahead b p w m start n = (i : ℕ) → i < n → Holds b (p + i * w) w (getD m (start + i) 0)

@@ -13,7 +13,7 @@ use lib.ListN.{length}
 use Rattle.scope.specs.Room.{Sound}
 use Rattle.scope.specs.Form.{formLength}
 use Rattle.scope.specs.Buffers.{Written}
-use Rattle.scope.proofs.Fields.{Holds}
+use Rattle.scope.specs.Laid.{Holds}
 use Rattle.fields.specs.Fields.{byteOf, Ahead}
 use Rattle.fields.specs.declared.packing.Filling.{Filling}
 

@@ -18,8 +18,7 @@ use Rattle.scope.specs.Limits.{byteValues, classLimit, stateLimit, classesAt, r
 use Rattle.scope.specs.Room.{statesOf, classesOf, Sound}
 use Rattle.scope.specs.Form.{FormOf}
 use Rattle.scope.specs.Buffers.{TailKept}
-use Rattle.scope.proofs.Fields.{Holds}
-use Rattle.scope.proofs.Laid.{Laid, Framed, endBit}
+use Rattle.scope.specs.Laid.{Holds, Laid, Framed, endBit}
 use Rattle.fields.specs.Fields.{formBit, bitsOf, Ahead}
 
 pub record Image (f m : List ℕ) : Type 0 where

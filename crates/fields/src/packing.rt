@@ -1,8 +1,8 @@
 // Packing: each field is put behind the bits that do not yet fill a byte, and a byte that is full goes out.
 ghost use mathlib.Core.Path.{_≡_};
 ghost use Prim.Native.Nat.{_+_, _*_, _^_, _<_};
-ghost use Rattle.scope.proofs.Laid.{endBit};
-ghost use Rattle.fields.specs.Fields.{roomBit, classesBit};
+ghost use Rattle.scope.specs.Laid.{endBit, classesBit};
+ghost use Rattle.fields.specs.Fields.{roomBit};
 ghost use Rattle.fields.specs.Filled.{Fits, Filled, Ready, Puts, Passes, Due, Ends};
 use super::CLASS_BITS;
 use super::FORM;

@@ -3,7 +3,7 @@ ghost use Prim.Native.Nat.{_+_, _*_, _^_, _≤_, _<_};
 ghost use lib.ListN.{length};
 ghost use Rattle.scope.specs.Limits.{stateLimit, classLimit, roomBytes};
 ghost use Rattle.scope.specs.Buffers.{TailKept};
-ghost use Rattle.scope.proofs.Fields.{Holds};
+ghost use Rattle.scope.specs.Laid.{Holds};
 ghost use Rattle.fields.specs.Fields.{formBit};
 ghost use Rattle.fields.specs.Image.{Named, Shaped, Judged, Took, Blank, Image};
 use super::CLASS_BITS;

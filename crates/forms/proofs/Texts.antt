@@ -10,7 +10,7 @@ use lib.Seq.{length-take-le, getD-take, getD-drop}
 use Rattle.scope.specs.Bytes.{Bytes}
 use Rattle.scope.specs.Limits.{byteValues}
 use Rattle.scope.proofs.Tests.{split}
-use Rattle.matching.proofs.Laws.{known-bytes}
+use Rattle.scope.proofs.Run.{bytes-known}
 use Rattle.forms.specs.Form.{fieldLimit, textLimit, textsAt, formBytes, lengthOf, byteOf, textOf}
 
 -- a text of at most 128 bytes is as long as the form says
@@ -23,7 +23,7 @@ text-byte form f i h = getD-take (lengthOf form f) (drop (textsAt + f * textLimi
 
 -- and are bytes
 pub text-bytes : (form : List ℕ) (f : ℕ) → ((i : ℕ) → getD form i 0 < byteValues) → Bytes (textOf form f)
-text-bytes form f known = known-bytes (textOf form f) (λ i. ⊎-elim (λ h. rw (text-byte form f i h) (known _)) (λ h. rw (past i h) (omega arith)) (split i (lengthOf form f)))
+text-bytes form f known = bytes-known (textOf form f) (λ i. ⊎-elim (λ h. rw (text-byte form f i h) (known _)) (λ h. rw (past i h) (omega arith)) (split i (lengthOf form f)))
   where
     past : (i : ℕ) → lengthOf form f ≤ i → getD (textOf form f) i 0 ≡ 0
     past i h = List·getD-eq-default (textOf form f) 0 (omega (arith, length-take (lengthOf form f) (drop (textsAt + f * textLimit) form)))

@@ -16,7 +16,7 @@ use Rattle.scope.specs.Tree.{Item, lone, range, Leaf, Tree, onlyIf, fallingItem
 use Rattle.scope.specs.Grammar.{literal, escapable, classLiteral, hex, Escape, plain, coded, ClassByte, bare, escaped, OneItem, one-byte, low-high, Items, last-item, more-items, Single, a-dot, a-literal, an-escape, a-class, Level, Reads, single, no-byte, no-word, in-group, one-atom, one-star, one-factor, next-factor, one-branch, next-branch}
 use Rattle.scope.specs.Judge.{Pattern}
 use Rattle.scope.proofs.Tests.{below}
-use Rattle.scope.proofs.Modes.{Piece, atom, low, high, Mode, await, done, back, code, digit, State, stuck, at, after, bareIn, begins, again, ends, next, runTo}
+use Rattle.scope.specs.Modes.{Piece, atom, low, high, Mode, await, done, back, code, digit, State, stuck, at, after, bareIn, begins, again, ends, next, runTo}
 use Rattle.judge.specs.Notes.{Marks, since, started, asRead, nested, begun, dashed, marked, note, blank, Notes}
 use Rattle.judge.proofs.Nested.{inside, inside-opened}
 

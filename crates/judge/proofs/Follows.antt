@@ -15,7 +15,7 @@ use lib.ListN.{length, getD}
 use Rattle.scope.specs.Tree.{Tree}
 use Rattle.scope.specs.Judge.{Pattern}
 use Rattle.scope.proofs.Lists.{any-default}
-use Rattle.scope.proofs.Modes.{Piece, atom, at, isStuck, after, runTo}
+use Rattle.scope.specs.Modes.{Piece, atom, at, isStuck, after, runTo}
 use Rattle.scope.proofs.Places.{legal-exact, stuck-at, unfinished}
 use Rattle.judge.specs.declared.Judged.{Judged}
 use Rattle.judge.specs.declared.reading.Reading.{Reading}

@@ -15,7 +15,7 @@ use Rattle.scope.specs.Limits.{nestLimit, positionLimit}
 use Rattle.scope.specs.Tree.{onlyIf}
 use Rattle.scope.specs.Judge.{Beyond}
 use Rattle.scope.proofs.Tests.{equals, below, not-below}
-use Rattle.scope.proofs.Modes.{atom, low, high}
+use Rattle.scope.specs.Modes.{atom, low, high}
 use Rattle.judge.specs.Notes.{Notes, since, readAs, nestedAt}
 use Rattle.judge.specs.Reading.{Tallied, Keeps, More}
 use Rattle.judge.specs.declared.reading.Tally.{Tally}

@@ -20,7 +20,7 @@ use lib.Dec.{eqb}
 use Rattle.scope.specs.Limits.{positionLimit}
 use Rattle.scope.specs.Grammar.{literal, escapable, classLiteral, hex}
 use Rattle.scope.proofs.Tests.{below, not-below}
-use Rattle.scope.proofs.Modes.{Piece, atom, low, high, await, done, back, code, digit, State, stuck, at, isStuck, after, begins, closes, empties, next}
+use Rattle.scope.specs.Modes.{Piece, atom, low, high, await, done, back, code, digit, State, stuck, at, isStuck, after, begins, closes, empties, next}
 use Rattle.judge.specs.Notes.{Notes, readAs, begunAt, noted}
 use Rattle.judge.specs.Reading.{pieceOf, stateOf, standing, Keeps, Kept, More, Takes, ReadAs, Nests, Begins, Advances, Passes}
 use Rattle.judge.specs.declared.reading.Tally.{Tally}

@@ -15,7 +15,7 @@ use lib.Dec.{eqb, ltb}
 use Rattle.scope.specs.Limits.{nestLimit}
 use Rattle.scope.specs.Tree.{onlyIf}
 use Rattle.scope.specs.Grammar.{escapable, hex}
-use Rattle.scope.proofs.Modes.{Piece, atom, low, high, Mode, await, done, back, code, digit, State, stuck, at, bareIn, again}
+use Rattle.scope.specs.Modes.{Piece, atom, low, high, Mode, await, done, back, code, digit, State, stuck, at, bareIn, again}
 
 -- from: the first byte of the atom, or the dash of the range; least: the byte that a dash would make the low end of a range
 pub record Marks : Type 0 where

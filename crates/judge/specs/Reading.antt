@@ -13,7 +13,7 @@ use mathlib.Core.List.{List, [], _∷_, _++_}
 use lib.ListN.{length}
 use Rattle.scope.specs.Limits.{positionLimit}
 use Rattle.scope.specs.Judge.{Beyond}
-use Rattle.scope.proofs.Modes.{Piece, atom, low, high, Mode, await, done, back, code, digit, State, stuck, at, isStuck, begins, next, step}
+use Rattle.scope.specs.Modes.{Piece, atom, low, high, Mode, await, done, back, code, digit, State, stuck, at, isStuck, begins, next, step}
 use Rattle.judge.specs.Notes.{Marks, Notes, readAs, nestedAt, begunAt, noted, note}
 use Rattle.judge.specs.declared.Judged.{Judged}
 use Rattle.judge.specs.declared.reading.Tally.{Tally}

@@ -2,7 +2,7 @@
 ghost use mathlib.Core.Path.{_≡_};
 ghost use Prim.Native.Nat.{_<_, _≤_};
 ghost use Rattle.scope.specs.Limits.{positionLimit};
-ghost use Rattle.scope.proofs.Modes.{atom, back, code, digit, stuck};
+ghost use Rattle.scope.specs.Modes.{atom, back, code, digit, stuck};
 ghost use Rattle.judge.specs.Notes.{blank};
 ghost use Rattle.judge.specs.Reading.{pieceOf, standing, Kept, More, ReadAs, Nests, Begins, Passes, Advances, Bounded, Faults};
 use crate::Judged;

@@ -1,7 +1,6 @@
 -- A prefix is completable exactly if the state that it leads to is live. From a live state the rest of a text can be taken back: if the whole text leads
 -- to a live state, so does every prefix.
 --   Stepped m cells k q b, stepped: the cell for a state and a byte, in the part of a room that begins at its first cell
---   known-bytes: elements below 256 are a string of bytes
 --   At M s i q: the first i bytes of s lead to the state q; at-start, at-more, at-end: none, one more, all
 --   accepting, not-accepting: what the mark of the last state says
 --   live-prefix, prefix-live: completable and live are the same
@@ -21,14 +20,9 @@ use Rattle.scope.specs.Machine.{Machine, run, Accepts, Completable}
 use Rattle.scope.specs.Room.{statesOf, classesOf, classOf, markOf, cellOf, nextOf, machine, Sound}
 use Rattle.scope.specs.Match.{Alive}
 use Rattle.scope.proofs.Tests.{split, equals}
-use Rattle.scope.proofs.Run.{run-append, bytes-append}
+use Rattle.scope.proofs.Run.{run-append, bytes-append, bytes-known}
 use Rattle.live.specs.Live.{Live}
 use Rattle.room.proofs.Laws.{CellAt, cell-at}
-
--- elements below 256 are a string of bytes
-pub known-bytes : (s : List ℕ) → ((i : ℕ) → getD s i 0 < byteValues) → Bytes s
-known-bytes [] f = tt
-known-bytes (b ∷ s) f = (f 0, known-bytes s (λ i. f (suc i)))
 
 -- the first i bytes of s lead to q
 pub record At (M : Machine) (s : List ℕ) (i q : ℕ) : Type 0 where
@@ -73,7 +67,7 @@ module _ (M : Machine) where
   pub alive : (s : List ℕ) → ((i : ℕ) → getD s i 0 < byteValues) → Live M (run M 0 s) → Alive M s
   alive s f l j h = record {
     rest = drop j s ++ l .word;
-    bytes = bytes-append (drop j s) (l .word) (known-bytes (drop j s) (λ i. rw getD-drop (f (j + i)))) (l .bytes);
+    bytes = bytes-append (drop j s) (l .word) (bytes-known (drop j s) (λ i. rw getD-drop (f (j + i)))) (l .bytes);
     accepted = rw (← append-assoc (take j s) (drop j s) (l .word), take-append-drop j s, run-append M 0 s (l .word)) (l .accepted);
   }
 

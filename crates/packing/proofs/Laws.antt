@@ -9,7 +9,7 @@ use Rattle.scope.specs.Limits.{roomBytes}
 use Rattle.scope.specs.Canonical.{Canonical}
 use Rattle.scope.specs.Form.{FormOf}
 use Rattle.scope.specs.Buffers.{Written, TailKept}
-use Rattle.scope.proofs.Room.{SameBytes}
+use Rattle.scope.specs.Room.{SameBytes}
 use Rattle.scope.proofs.Moved.{canonical-moved}
 use native.Mathlib.Omega.{arith}
 use Rattle.fields.specs.Image.{Image, Imageless}

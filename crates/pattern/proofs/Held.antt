@@ -5,7 +5,6 @@
 --   has-range: the number whose bits are those of a range
 --   mark-range: the bits of a range that lie in one byte were stored
 --   marked-as: the same bytes under another name
---   kept-more: a buffer whose tail stays
 use Prim.Native.Nat.{ℕ, zero, suc, _+_, _-_, _*_, _/_, _%_, _^_, _<_, _≤_}
 use mathlib.Core.Path.{_≡_, refl, sym, ap, ap₂, _∙_}
 use mathlib.Core.Bool.{Bool, false, _&&_, _||_, and-false, or-false, or-assoc, and-or-distrib-left}
@@ -24,20 +23,15 @@ use Rattle.scope.specs.Bits.{has}
 use Rattle.scope.specs.Buffers.{TailKept}
 use Rattle.scope.specs.Bytes.{ByteSet, between}
 use Rattle.scope.specs.Limits.{byteValues, positionLimit}
+use Rattle.scope.specs.Tests.{Tests}
 use Rattle.scope.proofs.Bits.{has-or, has-half, has-ones, has-small}
-use Rattle.scope.proofs.Tests.{split, same-test, Tests, never, or, and, itself, equals, at-most}
-use Rattle.scope.proofs.Buffers.{all-kept}
+use Rattle.scope.proofs.Tests.{split, same-test, never, or, and, itself, equals, at-most}
+use Rattle.scope.proofs.Buffers.{all-kept, tail-then}
 use Rattle.pattern.specs.Held.{byteSet, byteSets, held, Marked}
 
 pub record Left (k : ℕ) (s r : ByteSet) (m m′ : List ℕ) : Type 0 where
   pub kept : TailKept byteSets m m′
   pub bits : (q b : ℕ) → b < byteValues → (held m′ q b || (eqb q k && r b)) ≡ (held m q b || (eqb q k && s b))
-
--- ---- what stays
-
--- one change after another
-pub kept-more : {n : ℕ} {a b c : List ℕ} → TailKept n a b → TailKept n b c → TailKept n a c
-kept-more x y = record { size = y .size ∙ x .size; outside = λ i h. y .outside i h ∙ x .outside i h }
 
 -- ---- what is left
 
@@ -50,7 +44,7 @@ spread x k a r = rw and-or-distrib-left (sym (or-assoc x (k && a) (k && r)))
 -- the bytes x of those that were left are marked
 pub left-more : {k : ℕ} {s r r′ x : ByteSet} {a b c : List ℕ} → Left k s r a b → Marked k x b c → ((n : ℕ) → n < byteValues → r n ≡ (x n || r′ n)) → Left k s r′ a c
 left-more {k} {r′ = r′} {x = x} {b = b} l m e = record {
-  kept = kept-more (l .kept) (m .kept);
+  kept = tail-then (l .kept) (m .kept);
   bits = λ q n h. ap (λ (y : Bool). y || (eqb q k && r′ n)) (m .bits q n h) ∙ sym (spread (held b q n) (eqb q k) (x n) (r′ n)) ∙ ap (λ (y : Bool). held b q n || (eqb q k && y)) (sym (e n h)) ∙ l .bits q n h;
 }
 

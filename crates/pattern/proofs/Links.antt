@@ -14,11 +14,10 @@ use lib.Dec.{ltb}
 use Rattle.scope.specs.Bits.{has, given}
 use Rattle.scope.specs.Buffers.{TailKept}
 use Rattle.scope.proofs.Tests.{split, not-below}
-use Rattle.scope.proofs.Buffers.{all-kept}
+use Rattle.scope.proofs.Buffers.{all-kept, tail-then}
 use Rattle.sets.specs.Value.{setBits, setAt, Put}
 use Rattle.sets.proofs.Words.{put-other}
 use Rattle.pattern.specs.Right.{wordSets, Linked}
-use Rattle.pattern.proofs.Held.{kept-more}
 
 pub record Linking (p last first : ℕ) (m m′ : List ℕ) : Type 0 where
   pub kept : TailKept wordSets m m′
@@ -29,7 +28,7 @@ link-none last first m = record { kept = all-kept m wordSets; sets = λ q. rw (n
 
 pub link-more : {p last first v : ℕ} {m a b : List ℕ} → Linking p last first m a → p < setBits → v ≡ bitOr (setAt a p) (given (has last p) first) → Put a b p v → Linking (p + 1) last first m b
 link-more {p} {last} {first} {v} {m} {a} {b} l h e s = record {
-  kept = kept-more (l .kept) (record { size = s .size; outside = λ i k. s .outside i (inr (omega arith)) });
+  kept = tail-then (l .kept) (record { size = s .size; outside = λ i k. s .outside i (inr (omega arith)) });
   sets = λ q. at q (ℕ-discrete q p);
 }
   where

@@ -17,12 +17,11 @@ use Rattle.scope.proofs.Bits.{has-or, has-zero, has-pow, has-given, last-is}
 use Rattle.scope.proofs.Glushkov.{last-in}
 use Rattle.scope.proofs.Moves.{same-bits}
 use Rattle.scope.proofs.Tests.{which, same-test, equals}
-use Rattle.scope.proofs.Buffers.{all-kept}
+use Rattle.scope.proofs.Buffers.{all-kept, tail-then}
 use Rattle.sets.specs.Value.{value, setAt}
 use Rattle.pattern.specs.declared.shapes.Part.{Part}
 use Rattle.pattern.specs.Held.{byteSets, held, Marked}
 use Rattle.pattern.specs.Right.{wordSets, Linked, Follows, Holds, Right, Alone, Blank, Beside, Either, Moved}
-use Rattle.pattern.proofs.Held.{kept-more}
 
 -- unions regrouped
 join-assoc : (a b c : ℕ) → bitOr (bitOr a b) c ≡ bitOr a (bitOr b c)
@@ -37,7 +36,7 @@ joins a b c r s x y p = y p ∙ ap (λ (z : ℕ). bitOr z (s p)) (x p) ∙ join-
 -- the bytes of both of two expressions
 holds-both : {e f : Re} (g : Re) {k n : ℕ} {a b c : List ℕ} → Holds e k a b → Holds f n b c → ((x : ℕ) → holders g k x ≡ bitOr (holders e k x) (holders f n x)) → Holds g k a c
 holds-both {e} {f} g {k} {n} {a} x y h = record {
-  kept = kept-more (x .kept) (y .kept);
+  kept = tail-then (x .kept) (y .kept);
   bits = λ q v l. y .bits q v l ∙ ap (λ (z : Bool). z || has (holders f n v) (q + 1)) (x .bits q v l) ∙ or-assoc (held a q v) (has (holders e k v) (q + 1)) (has (holders f n v) (q + 1))
       ∙ ap (λ (z : Bool). held a q v || z) (sym (ap (λ (z : ℕ). has z (q + 1)) (h v) ∙ has-or (holders e k v) (holders f n v) (q + 1)));
 }
@@ -78,7 +77,7 @@ module _ {e : Re} {k : ℕ} {y y′ w w′ : List ℕ} {g : Part} where
     firsts = cc;
     lasts = cc;
     follows = record {
-      kept = kept-more (x .follows .kept) (l .kept);
+      kept = tail-then (x .follows .kept) (l .kept);
       sets = joins w w′ w″ (follow e k) (λ p. given (has (last e k) p) (first e k)) (x .follows .sets) (λ p. l .sets p ∙ ap₂ (λ (u v : ℕ). bitOr (setAt w′ p) (given (has u p) v)) (x .lasts) (x .firsts));
     };
     holds = record { kept = x .holds .kept; bits = x .holds .bits };
@@ -108,7 +107,7 @@ module _ {e f : Re} {k : ℕ} {y y′ y″ w w′ w″ : List ℕ} {a b r : Part
         nulls = cc;
         firsts = cc;
         lasts = cc;
-        follows = record { kept = kept-more (x .follows .kept) (v .follows .kept); sets = joins w w′ w″ (follow e k) (follow f (k + size e)) (x .follows .sets) (v .follows .sets) };
+        follows = record { kept = tail-then (x .follows .kept) (v .follows .kept); sets = joins w w′ w″ (follow e k) (follow f (k + size e)) (x .follows .sets) (v .follows .sets) };
         holds = holds-both (alt e f) (x .holds) (v .holds) (λ n. refl);
       }
 
@@ -123,7 +122,7 @@ module _ {e f : Re} {k : ℕ} {y y′ y″ w w′ w″ : List ℕ} {a b r : Part
         firsts = cc;
         lasts = cc;
         follows = record {
-          kept = kept-more (kept-more (x .follows .kept) (v .follows .kept)) (l .kept);
+          kept = tail-then (tail-then (x .follows .kept) (v .follows .kept)) (l .kept);
           sets = joins w w″ w‴ (λ p. bitOr (follow e k p) (follow f (k + size e) p)) (λ p. given (has (last e k) p) (first f (k + size e)))
               (joins w w′ w″ (follow e k) (follow f (k + size e)) (x .follows .sets) (v .follows .sets))
               (λ p. l .sets p ∙ ap₂ (λ (g h : ℕ). bitOr (setAt w″ p) (given (has g p) h)) (x .lasts) (v .firsts));

@@ -16,7 +16,7 @@ use Rattle.scope.specs.Compile.{Compiles, compiled}
 use Rattle.scope.specs.Compare.{CompareLent, Compares, no-room, no-form, same, separated}
 use Rattle.scope.specs.Lines.{Side, Outcome, outcomeLines, printed}
 use Rattle.scope.specs.Machine.{Equal, Closed}
-use Rattle.scope.specs.Room.{machine, Sound}
+use Rattle.scope.specs.Room.{machine, Sound, SameBytes}
 use Rattle.scope.specs.Rounds.{aside, Rounds}
 use Rattle.scope.specs.Separate.{Separation}
 use Rattle.scope.proofs.Agree.{Agree, agree-aside, agree-rounds, agree-equal, agree-separation}
@@ -25,7 +25,6 @@ use Rattle.scope.proofs.Buffers.{written-take}
 use Rattle.scope.proofs.Compare.{rounds-one, separation-one, equal-separates, unsound}
 use Rattle.scope.proofs.Compile.{lent-one, one-room}
 use Rattle.scope.proofs.Moved.{moved-agree, sound-moved}
-use Rattle.scope.proofs.Room.{SameBytes}
 use Rattle.scope.proofs.Run.{sound-closed}
 use Rattle.compare.proofs.Results.{compares-fits}
 use Rattle.lines.specs.Printing.{counted, told}

@@ -12,7 +12,8 @@ use lib.ListN.{length, getD}
 use Rattle.scope.specs.Limits.{byteValues}
 use Rattle.scope.specs.Machine.{Machine, Closed}
 use Rattle.scope.specs.Rounds.{Together, Rests, Rounds}
-use Rattle.scope.proofs.Tests.{Tests, and, implies, itself, same-bool, all, all-is, below, pair}
+use Rattle.scope.specs.Tests.{Tests}
+use Rattle.scope.proofs.Tests.{and, implies, itself, same-bool, all, all-is, below, pair}
 use Rattle.scope.proofs.Numbering.{differ, differ-by}
 use Rattle.scope.proofs.Separate.{Spelled, spelled-more}
 

@@ -16,7 +16,8 @@ use lib.Count.{trailingZeros}
 use Rattle.scope.specs.Re.{Re, none, eps, one, alt, cat, star, size}
 use Rattle.scope.specs.Sets.{Null, First, Last, Follow, At}
 use Rattle.scope.specs.Bits.{has, given, null, first, last, follow, holders}
-use Rattle.scope.proofs.Tests.{split, Tests, never, always, or, and, amounts, itself, equals}
+use Rattle.scope.specs.Tests.{Tests}
+use Rattle.scope.proofs.Tests.{split, never, always, or, and, amounts, itself, equals}
 
 -- ---- bits
 

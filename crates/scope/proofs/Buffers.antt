@@ -1,7 +1,7 @@
 -- What the records on buffers determine: two lists that one record allows are equal, element by element.
 --   written-one, written-none, tail-one: of one buffer
 --   written-take: the bytes that were written are the string
---   all-kept: what is not touched
+--   all-kept, tail-then, tail-within: what is not touched; two changes, one after the other; a change within a longer part
 --   cleared-one, untouched-one: of the scratch
 use Prim.Native.Nat.{ℕ, _<_, _≤_}
 use mathlib.Core.Path.{_≡_, refl, sym, _∙_}
@@ -40,6 +40,14 @@ tail-one {n} {old} {a} {b} u v e = ext-getD 0 a b (u .size ∙ sym (v .size)) (�
 -- what is not touched is kept
 pub all-kept : (m : List ℕ) (n : ℕ) → TailKept n m m
 all-kept m n = record { size = refl; outside = λ i h. refl }
+
+-- two changes, one after the other
+pub tail-then : {n : ℕ} {a b c : List ℕ} → TailKept n a b → TailKept n b c → TailKept n a c
+tail-then s t = record { size = t .size ∙ s .size; outside = λ i h. t .outside i h ∙ s .outside i h }
+
+-- a change within a longer part
+pub tail-within : {n m : ℕ} {a b : List ℕ} → n ≤ m → TailKept n a b → TailKept m a b
+tail-within h s = record { size = s .size; outside = λ i g. s .outside i (omega arith) }
 
 -- both parts of the scratch
 abbrev pub Alike : List ℕ → List ℕ → List ℕ → List ℕ → Type 0

@@ -12,8 +12,9 @@ use Rattle.scope.specs.Bytes.{byte}
 use Rattle.scope.specs.Tree.{Item, Tree}
 use Rattle.scope.specs.Grammar.{hex, Escape, plain, coded, ClassByte, bare, escaped, OneItem, one-byte, low-high, Items, last-item, more-items, a-dot, a-literal, an-escape, a-class, Level, atoms, factors, branches, exprs, Reads, single, no-byte, no-word, in-group, one-atom, one-star, one-factor, next-factor, one-branch, next-branch}
 use Rattle.scope.specs.Judge.{Legal}
-use Rattle.scope.proofs.Tests.{Tests, itself, equals, below}
-use Rattle.scope.proofs.Modes.{Piece, atom, low, high, await, done, back, code, digit, State, stuck, at, after, bareIn, opens, begins, again, closes, ends, empties, step, runTo}
+use Rattle.scope.specs.Tests.{Tests}
+use Rattle.scope.proofs.Tests.{itself, equals, below}
+use Rattle.scope.specs.Modes.{Piece, atom, low, high, await, done, back, code, digit, State, stuck, at, after, bareIn, opens, begins, again, closes, ends, empties, step, runTo}
 
 module _ (s : List ℕ) where
   -- the bytes i .. j are an l

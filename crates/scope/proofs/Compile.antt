@@ -21,7 +21,7 @@ use Rattle.scope.specs.Tree.{Tree, expr, falling, opened, places}
 use Rattle.scope.specs.Judge.{Pattern, SyntaxAt, Beyond, RangeAt, Ordered, DepthAt, Shallow, PositionAt}
 use Rattle.scope.specs.Reached.{Share, ManyClasses, FewClasses, ManySets, FewSets}
 use Rattle.scope.specs.Machine.{Machine, Equal, Recognises, Closed}
-use Rattle.scope.specs.Room.{statesOf, machine}
+use Rattle.scope.specs.Room.{statesOf, machine, SameBytes}
 use Rattle.scope.specs.Canonical.{Canonical}
 use Rattle.scope.specs.Buffers.{Lent}
 use Rattle.scope.specs.Compile.{Fits, Sized, CompileRefused, Compiles, no-room, too-long, no-syntax, falls, too-deep, too-many, many-classes, many-sets, compiled}
@@ -30,7 +30,6 @@ use Rattle.scope.proofs.Buffers.{cleared-one, untouched-one, tail-one}
 use Rattle.scope.proofs.Count.{over-within}
 use Rattle.scope.proofs.Judge.{syntax-one, beyond-one}
 use Rattle.scope.proofs.Least.{least}
-use Rattle.scope.proofs.Room.{SameBytes}
 use Rattle.scope.proofs.Tree.{one-tree}
 use Rattle.scope.proofs.Unique.{unique}
 use Rattle.scope.proofs.Determined.{Judged, Single, judged-one}
@@ -188,7 +187,7 @@ module _ {text room u v bytes b c words w x : List ℕ} where
       (tail-one h h′ (unique u v k k′ (one-language (machine u) (machine v) (Words (expr t)) e e″)), z .0, z .1)
 
   -- two results of one call: the numbers and places, the rooms, the scratch
-  pub determined : {n m i j : ℕ} → Compiles text room u bytes b words w n i → Compiles text room v bytes c words x m j → (n ≡ m) × (i ≡ j) × Alike u v b c w x
+  pub determined : {n m i j : ℕ} → Compiles text room u bytes b words w n i → Compiles text room v bytes c words x m j → (n ≡ m) × (i ≡ j) × ((u ≡ v) × (b ≡ c) × (w ≡ x))
   determined a d = let (e, f) = answer-one text room bytes words a (chain text room bytes words d) in (e, f, after-one a (rw (e, f) d))
 
 -- ---- what a compiled room is

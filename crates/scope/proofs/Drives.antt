@@ -12,7 +12,7 @@ use Rattle.scope.specs.Tree.{Item, Leaf, Tree}
 use Rattle.scope.specs.Grammar.{literal, escapable, classLiteral, Escape, plain, coded, ClassByte, bare, escaped, OneItem, one-byte, low-high, Items, last-item, more-items, Single, a-dot, a-literal, an-escape, a-class, Level, Reads, single, no-byte, no-word, in-group, one-atom, one-star, one-factor, next-factor, one-branch, next-branch}
 use Rattle.scope.specs.Judge.{Legal}
 use Rattle.scope.proofs.Tests.{below}
-use Rattle.scope.proofs.Modes.{Piece, atom, low, high, Mode, await, done, back, code, digit, State, stuck, at, after, bareIn, begins, again, ends, next, runTo}
+use Rattle.scope.specs.Modes.{Piece, atom, low, high, Mode, await, done, back, code, digit, State, stuck, at, after, bareIn, begins, again, ends, next, runTo}
 
 -- after i bytes the machine is in the mode m, with n open parentheses
 record In (s : List ℕ) (i : ℕ) (m : Mode) (n : ℕ) : Type 0 where

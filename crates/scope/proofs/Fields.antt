@@ -1,7 +1,6 @@
 -- Reading the fields of a form back.
 --   value-ext, value-lt, value-join, value-one: what `value` depends on, how large it is, of two pieces, and that it determines its bits
 --   bits-value: a field of n bits has the value that was put there
---   Holds b p n x: n bits of b, from the bit p on, have the value x
 --   fields-at: each field of a list
 use Prim.Native.Nat.{ℕ, zero, suc, _+_, _*_, _/_, _%_, _^_, _<_}
 use mathlib.Core.Path.{_≡_, refl, sym, ap, _∙_}
@@ -15,6 +14,7 @@ use lib.Pow.{mod-pow-add}
 use lib.ListN.{length, getD, length-append}
 use lib.Seq.{getD-append-add}
 use Rattle.scope.specs.Form.{bits, fields, value}
+use Rattle.scope.specs.Laid.{bitOf, from, Holds}
 use Rattle.scope.proofs.Tests.{split}
 use Rattle.scope.proofs.Form.{bits-length}
 
@@ -58,18 +58,6 @@ pub fields-are : (n : ℕ) (l : List ℕ) → Bits (fields n l)
 unfolding fields
 fields-are n [] j = lit< tt
 fields-are n (x ∷ l) j = join-are (bits n x) (fields n l) (bits-are n x) (fields-are n l) j
-
--- the bit j of a list, 0 past its end
-abbrev pub bitOf : List ℕ → ℕ → ℕ
-bitOf l j = getD l j 0
-
--- the bits of b from p on
-abbrev pub from : (ℕ → ℕ) → ℕ → ℕ → ℕ
-from b p j = b (p + j)
-
--- n bits of b, from p on, have the value x
-abbrev pub Holds : (ℕ → ℕ) → ℕ → ℕ → ℕ → Type 0
-Holds b p n x = value n (from b p) ≡ x
 
 bits-mod : (n x : ℕ) (l : List ℕ) → value n (λ j. getD (bits n x ++ l) j 0) ≡ x % 2 ^ n
 unfolding bits value

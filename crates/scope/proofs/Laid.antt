@@ -1,6 +1,4 @@
 -- The form of a room, field by field: a bit sequence is laid out for a room, and either determines the other.
---   cellsBit, endBit: where the cells begin, and where the form ends, in bits
---   Laid b m: the bits b are the fields of the room m; Framed m: what is not in the fields is as in a sound room
 --   form-laid: the bits of a form are laid out so
 --   laid-one, bits-one, one-form: the bits have one room, the room one sequence of bits, and a form one room
 use Prim.Native.Nat.{ℕ, zero, suc, _+_, _-_, _*_, _/_, _%_, _^_, _≤_, _<_}
@@ -14,34 +12,12 @@ use lib.ListN.{length, getD, take, drop, length-append, List·getD-eq-default}
 use lib.Seq.{getD-take, getD-drop}
 use Rattle.scope.specs.Limits.{byteValues, classLimit, stateLimit, classesAt, marksAt, cellsAt, roomBytes}
 use Rattle.scope.specs.Room.{statesOf, classesOf, Below, Sound}
-use Rattle.scope.specs.Form.{bits, fields, formBits, formLength, formByte, FormOf}
+use Rattle.scope.specs.Form.{stateBits, bits, fields, formBits, formLength, formByte, FormOf}
+use Rattle.scope.specs.Laid.{bitOf, from, Holds, classesBit, marksBit, cellsBit, endBit, Laid, Framed}
 use Rattle.scope.proofs.Tests.{split}
 use Rattle.scope.proofs.Room.{SameParts, bytes-from-parts}
 use Rattle.scope.proofs.Form.{bits-length, fields-length, part-length, form-bits}
-use Rattle.scope.proofs.Fields.{Bits, bitOf, from, Holds, value-ext, value-one, bits-at, fields-at, bits-are, fields-are, join-are}
-
-abbrev pub cellsBit : List ℕ → ℕ
-cellsBit m = 1553 + statesOf m
-
-abbrev pub endBit : List ℕ → ℕ
-endBit m = 1553 + statesOf m + statesOf m * classesOf m * 7
-
-pub record Laid (b : ℕ → ℕ) (m : List ℕ) : Type 0 where
-  pub bit : (j : ℕ) → b j < 2
-  pub number : Holds b 0 4 1
-  pub states : Holds b 4 7 (statesOf m - 1)
-  pub classes : Holds b 11 6 (classesOf m - 1)
-  pub class : (i : ℕ) → i < byteValues → Holds b (17 + i * 6) 6 (getD m (classesAt + i) 0)
-  pub mark : (i : ℕ) → i < statesOf m → Holds b (1553 + i * 1) 1 (getD m (marksAt + i) 0)
-  pub cell : (i : ℕ) → i < statesOf m * classesOf m → Holds b (cellsBit m + i * 7) 7 (getD m (cellsAt + i) 0)
-  pub rest : (j : ℕ) → endBit m ≤ j → b j ≡ 0
-
--- what soundness says of the bytes that are in no field
-pub record Framed (m : List ℕ) : Type 0 where
-  pub some-state : 1 ≤ statesOf m
-  pub some-class : 1 ≤ classesOf m
-  pub marks-off : Below m (marksAt + statesOf m) cellsAt 1
-  pub cells-off : Below m (cellsAt + statesOf m * classesOf m) roomBytes 1
+use Rattle.scope.proofs.Fields.{Bits, value-ext, value-one, bits-at, fields-at, bits-are, fields-are, join-are}
 
 pub framed : (m : List ℕ) → Sound m → Framed m
 framed m s = record { some-state = s .some-state; some-class = s .some-class; marks-off = s .marks-off; cells-off = s .cells-off }

@@ -11,7 +11,6 @@ pub mod Arrival
 pub mod Grammar
 pub mod Tree
 pub mod Judge
-pub mod Modes
 pub mod Drives
 pub mod Builds
 pub mod Places

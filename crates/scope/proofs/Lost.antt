@@ -16,8 +16,9 @@ use Rattle.scope.specs.Machine.{Machine, run, Completable}
 use Rattle.scope.specs.Room.{machine}
 use Rattle.scope.specs.Match.{Matches, accepted, dead, unfinished}
 use Rattle.scope.specs.Samples.{Sample, statesIn, classesIn, classIn, cellIn, roomOf}
-use Rattle.scope.proofs.Tests.{Tests, which, all, all-is, or, and, itself, equals, at-most, pair}
-use Rattle.scope.proofs.Run.{run-append, run-below, bytes-append}
+use Rattle.scope.specs.Tests.{Tests}
+use Rattle.scope.proofs.Tests.{which, all, all-is, or, and, itself, equals, at-most, pair}
+use Rattle.scope.proofs.Run.{run-append, run-below, bytes-append, bytes-take}
 use Rattle.scope.proofs.Agree.{agree-same}
 use Rattle.scope.proofs.Table.{tableOf, Small, room-sound, room-agrees, table-closed}
 use Rattle.scope.proofs.Numbering.{isBytes, bytes-by}
@@ -48,11 +49,6 @@ unfolding isGuided isBytes isAnswer
 isMatched g lost homes s n i = isGuided g lost homes && (isBytes s && isAnswer g lost s n i)
 
 -- ---- what it shows
-
-bytes-take : (n : ℕ) (s : List ℕ) → Bytes s → Bytes (take n s)
-bytes-take zero s b = tt
-bytes-take (suc n) [] b = tt
-bytes-take (suc n) (x ∷ s) b = (b .0, bytes-take n s (b .1))
 
 untrue : (b : Bool) → not b ≡ true → b ≡ true → ⊥
 untrue true e d = false≢true e

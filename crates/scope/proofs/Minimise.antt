@@ -8,11 +8,10 @@ use mathlib.Core.Path.{_≡_, refl, sym, _∙_}
 use mathlib.Core.List.{List}
 use Rattle.scope.specs.Answers.{DONE}
 use Rattle.scope.specs.Machine.{Machine, Equal, Closed}
-use Rattle.scope.specs.Room.{statesOf, machine}
+use Rattle.scope.specs.Room.{statesOf, machine, SameBytes}
 use Rattle.scope.specs.Canonical.{Canonical}
 use Rattle.scope.specs.Minimise.{Minimises, no-room, no-form, minimised}
 use Rattle.scope.proofs.Buffers.{cleared-one, untouched-one, tail-one}
-use Rattle.scope.proofs.Room.{SameBytes}
 use Rattle.scope.proofs.Unique.{unique}
 use Rattle.scope.proofs.Least.{least}
 

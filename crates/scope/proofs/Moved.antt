@@ -11,9 +11,9 @@ use lib.Dec.{eqb}
 use lib.ListN.{length}
 use Rattle.scope.specs.Limits.{byteValues, classesAt, marksAt, cellsAt, roomBytes}
 use Rattle.scope.specs.Machine.{Same, Closed}
-use Rattle.scope.specs.Room.{statesOf, classesOf, classOf, nextOf, machine, Below, Sound}
+use Rattle.scope.specs.Room.{statesOf, classesOf, classOf, nextOf, machine, Below, Sound, SameBytes}
 use Rattle.scope.specs.Canonical.{entry, Canonical}
-use Rattle.scope.proofs.Room.{SameBytes, cell-used, cells-fit}
+use Rattle.scope.proofs.Room.{cell-used, cells-fit}
 use Rattle.scope.proofs.Run.{sound-closed}
 use Rattle.scope.proofs.Agree.{Agree, agree-same, agree-reached}
 use Rattle.scope.proofs.Arrival.{arrival-ext}

@@ -16,7 +16,8 @@ use Rattle.scope.specs.Re.{Re, size}
 use Rattle.scope.specs.Sets.{At, Edge}
 use Rattle.scope.specs.Bits.{has, given, joined, holders, after, move}
 use Rattle.scope.specs.Reached.{Share}
-use Rattle.scope.proofs.Tests.{Tests, never, or, and, amounts, itself, same-test}
+use Rattle.scope.specs.Tests.{Tests}
+use Rattle.scope.proofs.Tests.{never, or, and, amounts, itself, same-test}
 use Rattle.scope.proofs.Bits.{first-is, follow-is, holders-is, has-or, has-zero, has-given, digit, has-half}
 
 -- ---- numbers with the same bits are the same
@@ -85,10 +86,10 @@ after-is e zero q = first-is e 0 q
 after-is e (suc p) q = follow-is e 0 (suc p) q
 
 -- some position of the set s leads to q
-abbrev pub From : Re → ℕ → ℕ → Type 0
+abbrev From : Re → ℕ → ℕ → Type 0
 From e s q = (p : ℕ) × (p ≤ size e) × (has s p ≡ true) × Edge e p q
 
-pub move-is : (e : Re) (s b q : ℕ) → Tests (has (move e s b) q) (From e s q × At e 0 q b)
+pub move-is : (e : Re) (s b q : ℕ) → Tests (has (move e s b) q) (((p : ℕ) × (p ≤ size e) × (has s p ≡ true) × Edge e p q) × At e 0 q b)
 unfolding move
 move-is e s b q = rw has-and (and (amounts (joined-is (λ p. given (has s p) (after e p)) (size e + 1) q) up down) (holders-is e 0 q b))
   where

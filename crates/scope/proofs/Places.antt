@@ -4,10 +4,11 @@
 --   prefix-free, free-prefix: the same of the first i bytes of a text
 --   stuck-at, unfinished: SYNTAX at the byte on which the machine gets stuck; at the end of the text
 --   Verdict, verdict s: legal, or the place of SYNTAX, computed in one pass; Judges, judges: it is so, of every text
+--   judged: every text is legal or has a place of SYNTAX
 use Prim.Native.Nat.{ℕ, zero, suc, _+_, _<_, _≤_}
 use mathlib.Core.Path.{_≡_, refl, sym, ap, _∙_}
 use mathlib.Core.Bool.{true, false, cond, false≢true}
-use mathlib.Core.Logic.{_↔_, inl, inr}
+use mathlib.Core.Logic.{_↔_, _⊎_, inl, inr}
 use mathlib.Core.List.{List, [], _∷_, _++_}
 use native.Mathlib.Numerals.{add-one}
 use native.Mathlib.Omega.{arith}
@@ -18,7 +19,7 @@ use Rattle.scope.specs.Grammar.{literal, escapable, classLiteral, hex}
 use Rattle.scope.specs.Judge.{Legal, Viable, SyntaxAt}
 use Rattle.scope.proofs.Tests.{which}
 use Rattle.scope.proofs.Judge.{syntax-at}
-use Rattle.scope.proofs.Modes.{Piece, atom, low, high, Mode, await, done, back, code, digit, State, stuck, at, initial, isStuck, after, step, run, runTo}
+use Rattle.scope.specs.Modes.{Piece, atom, low, high, Mode, await, done, back, code, digit, State, stuck, at, initial, isStuck, after, step, run, runTo}
 use Rattle.scope.proofs.Drives.{legal-runs}
 use Rattle.scope.proofs.Builds.{runs-legal}
 
@@ -172,7 +173,7 @@ found (at m n) [] h = go (completion m n) refl
     go (b ∷ l) e = lacks refl (λ f. let z : _≡_ {A = ℕ} 0 1 = cc in omega arith)
 found x (b ∷ w) h = elim (which (isStuck (step x b))) [ inl e ↦ rw e (stops {i = 0} (omega arith) h e) | inr e ↦ rw e (found-later (found (step x b) w e)) ]
 
--- every text is legal or has a place of SYNTAX, the only one by `syntax-one`, and the machine finds it
+-- the machine finds whether a text is legal, and the place of SYNTAX if it is not
 pub judges : (s : List ℕ) → Judges s (verdict s)
 judges s = go (found initial s refl)
   where
@@ -180,3 +181,11 @@ judges s = go (found initial s refl)
     go (accepts e) = legal-exact s .1 (run-whole s ∙ e)
     go (stops {i = i} h f g) = stuck-at s i h (rw (run-take s i (omega arith)) f) (rw (add-one, run-take s (suc i) h) g)
     go (lacks f n) = unfinished s (rw run-whole f) (λ e. n (sym (run-whole s) ∙ e))
+
+-- every text is legal or has a place of SYNTAX, the only one by `syntax-one`
+pub judged : (s : List ℕ) → Legal s ⊎ ((i : ℕ) × SyntaxAt s i)
+judged s = either (verdict s) (judges s)
+  where
+    either : (v : Verdict) → Judges s v → Legal s ⊎ ((i : ℕ) × SyntaxAt s i)
+    either legal l = inl l
+    either (syntax i) p = inr (i, p)

@@ -23,7 +23,8 @@ use Rattle.scope.specs.Sets.{Null, Last, At, Final, Path, end, to}
 use Rattle.scope.specs.Bits.{has, final, move, accepting}
 use Rattle.scope.specs.Machine.{Machine, walk, run, Recognises, Closed}
 use Rattle.scope.specs.Reached.{Share, ReachedSet, FewSets}
-use Rattle.scope.proofs.Tests.{split, Tests, never, always, or, and, amounts, itself, equals}
+use Rattle.scope.specs.Tests.{Tests}
+use Rattle.scope.proofs.Tests.{split, never, always, or, and, amounts, itself, equals}
 use Rattle.scope.proofs.Count.{over-within}
 use Rattle.scope.proofs.Run.{walk-append, bytes-append}
 use Rattle.scope.proofs.Bits.{null-is, last-is, has-or, has-given, has-pow, has-zero, has-half, digit}

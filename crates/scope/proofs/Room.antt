@@ -2,7 +2,6 @@
 --   flat-in: a cell is among those of n rows
 --   cell-used: the cell that a state reads for a byte is a used one
 --   cells-fit: the used cells end within the room
---   SameBytes a b: the first 8,578 bytes of two rooms are equal
 --   SameParts a b: the used parts of two rooms are equal
 --   bytes-from-parts: rooms with equal used parts, and 0 elsewhere, have equal bytes
 use Prim.Native.Nat.{ℕ, _+_, _-_, _*_, _≤_, _<_}
@@ -13,7 +12,7 @@ use native.Mathlib.Nat.{suc-mul, mul-le-mul, mul-le-mul-right}
 use native.Mathlib.Omega.{arith}
 use lib.ListN.{getD}
 use Rattle.scope.specs.Limits.{byteValues, classesAt, marksAt, cellsAt, roomBytes}
-use Rattle.scope.specs.Room.{statesOf, classesOf, classOf, markOf, Below, Sound}
+use Rattle.scope.specs.Room.{statesOf, classesOf, classOf, markOf, Below, Sound, SameBytes}
 use Rattle.scope.proofs.Tests.{split}
 
 -- a cell is among those of n rows
@@ -28,10 +27,6 @@ module _ (m : List ℕ) (s : Sound m) where
   -- 128 states and 64 classes fill the room
   pub cells-fit : cellsAt + statesOf m * classesOf m ≤ roomBytes
   cells-fit = omega (arith, mul-le-mul (s .few-states) (s .few-classes))
-
--- the bytes that count are equal
-abbrev pub SameBytes : List ℕ → List ℕ → Type 0
-SameBytes a b = (i : ℕ) → i < roomBytes → getD a i 0 ≡ getD b i 0
 
 -- n, k, the classes, the used marks and cells are equal
 pub record SameParts (a b : List ℕ) : Type 0 where

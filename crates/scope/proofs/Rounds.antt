@@ -1,10 +1,8 @@
 -- Rounds and strings: after r rounds two states are together exactly when no string of at most r bytes tells them apart. So nothing splits after round r
 -- exactly when strings of at most r bytes tell apart all that any string does; and as each split shows one more state apart, that comes within n - 2 rounds.
---   Untold M r p q: no string of at most r bytes tells p from q
 --   together-out, together-in, together-is: to be together is to be untold
 --   together-flip, together-chain, together-less: an equivalence, as fine with each round as with the last
 --   alike, together-tests, together-either: whether two states are together is decided, byte by byte
---   Enough M r: strings of at most r bytes tell apart any two states that some string does
 --   rests-same, rests-enough, rests-later: what is together where nothing splits is so for ever
 --   rests-by, rounds-stop, rounds-bound: the rounds stop, after at most n - 2
 --   rounds-enough: rounds is the least length that is enough
@@ -19,15 +17,12 @@ use lib.ListN.{length}
 use Rattle.scope.specs.Limits.{byteValues}
 use Rattle.scope.specs.Bytes.{Bytes}
 use Rattle.scope.specs.Machine.{Machine, run, Same, Closed}
-use Rattle.scope.specs.Rounds.{Together, Rests, Rounds}
+use Rattle.scope.specs.Rounds.{Together, Rests, Rounds, Untold, Enough}
 use Rattle.scope.specs.Count.{Over}
-use Rattle.scope.proofs.Tests.{Tests, and, same-bool, all, all-is, which, split}
+use Rattle.scope.specs.Tests.{Tests}
+use Rattle.scope.proofs.Tests.{and, same-bool, all, all-is, which, split}
 use Rattle.scope.proofs.Count.{over-within}
 use Rattle.scope.proofs.Chain.{every, implies, over-two, over-more}
-
--- no string of at most r bytes tells p from q
-abbrev pub Untold : Machine → ℕ → ℕ → ℕ → Type 0
-Untold M r p q = (w : List ℕ) → Bytes w → length w ≤ r → M .accepts (run M p w) ≡ M .accepts (run M q w)
 
 -- what is together is untold
 pub together-out : (M : Machine) (r p q : ℕ) → Together M r p q → Untold M r p q
@@ -90,10 +85,6 @@ together-either M r p q = elim (which (alike M r p q)) [
 ]
 
 -- ---- where nothing splits
-
--- within r bytes any two states that some string tells apart are told apart
-abbrev pub Enough : Machine → ℕ → Type 0
-Enough M r = (p q : ℕ) → p < M .states → q < M .states → Untold M r p q → Same M p M q
 
 abbrev State : Machine → ℕ → Type 0
 State M q = q < M .states

@@ -1,14 +1,16 @@
 -- Runs. A string in two parts leads on from where its first part led, and a closed machine never leaves its states; so machines that agree on those
 -- states, or at 0, stay alike along every string.
 --   walk-append, run-append, bytes-append: a string in two parts
+--   bytes-take, bytes-known: a prefix of a string of bytes; elements below 256 are one
 --   run-below: a closed machine stays among its states
 --   run-agree: two machines that step alike from the states of one run alike
 --   same-after: two machines that accept the same strings do so from wherever one string leads
 --   sound-closed: a sound room holds a closed machine
-use Prim.Native.Nat.{ℕ, _+_, _*_, _<_}
+use Prim.Native.Nat.{ℕ, zero, suc, _+_, _*_, _<_}
 use mathlib.Core.Path.{_≡_, refl, ap, _∙_}
 use mathlib.Core.List.{List, [], _∷_, _++_}
 use native.Mathlib.Omega.{arith}
+use lib.ListN.{take, getD}
 use Rattle.scope.specs.Limits.{byteValues, cellsAt}
 use Rattle.scope.specs.Bytes.{Bytes}
 use Rattle.scope.specs.Machine.{walk, Machine, run, Same, Equal, Closed}
@@ -28,6 +30,15 @@ run-append M = walk-append (M .next)
 pub bytes-append : (u v : List ℕ) → Bytes u → Bytes v → Bytes (u ++ v)
 bytes-append [] v g h = h
 bytes-append (b ∷ u) v g h = (g .0, bytes-append u v (g .1) h)
+
+pub bytes-take : (n : ℕ) (s : List ℕ) → Bytes s → Bytes (take n s)
+bytes-take zero s g = tt
+bytes-take (suc n) [] g = tt
+bytes-take (suc n) (b ∷ s) g = (g .0, bytes-take n s (g .1))
+
+pub bytes-known : (s : List ℕ) → ((i : ℕ) → getD s i 0 < byteValues) → Bytes s
+bytes-known [] f = tt
+bytes-known (b ∷ s) f = (f 0, bytes-known s (λ i. f (suc i)))
 
 -- a string of bytes leads from a state to a state
 pub run-below : (M : Machine) → Closed M → (q : ℕ) (w : List ℕ) → q < M .states → Bytes w → run M q w < M .states

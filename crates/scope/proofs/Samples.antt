@@ -26,8 +26,9 @@ use Rattle.scope.specs.Separate.{Separation}
 use Rattle.scope.specs.Buffers.{Written, Scratch, Cleared}
 use Rattle.scope.specs.Compare.{CompareLent, Compares, same, separated}
 use Rattle.scope.specs.Lines.{printed}
-use Rattle.scope.specs.Samples.{Sample, statesIn, classesIn, classIn, roomOf, positions, HasSets, Row, Says, rows}
-use Rattle.scope.proofs.Tests.{Tests, all, all-is, any, any-is, and, or, itself, same-bool, equals, below, pair}
+use Rattle.scope.specs.Samples.{Sample, statesIn, classesIn, classIn, roomOf, positions, HasSets, Row, Says, Each, rows}
+use Rattle.scope.specs.Tests.{Tests}
+use Rattle.scope.proofs.Tests.{all, all-is, any, any-is, and, or, itself, same-bool, equals, below, pair}
 use Rattle.scope.proofs.Buffers.{written-none}
 use Rattle.scope.proofs.Form.{form-bits}
 use Rattle.scope.proofs.Reading.{isPattern, reads-by}
@@ -235,10 +236,6 @@ row-by (Row.falls s i) h e = let (a, b) = pair (reads-by s (h .left .tree)) (fir
 row-by (Row.prints a b c l) h e = list-by (printed a b c) l e
 
 -- ---- all rows
-
-abbrev pub Each : List Row → Type 0
-Each [] = Unit {0}
-Each (r ∷ l) = Says r × Each l
 
 unfoldable pub areRows : List Row → List Hint → Bool
 unfolding isRow

@@ -1,7 +1,7 @@
 -- Booleans that decide, and what is decided of numbers.
 --   which, split, level: a Boolean is true or false; of two numbers one is less, or the other at most it; two that are not less are equal
 --   same-test: two Booleans that imply each other are equal
---   Tests b A: b decides A; never, always, or, and, implies, amounts, itself, equals, below, at-most, same-bool: what each decides
+--   never, always, or, and, implies, amounts, itself, equals, below, at-most, same-bool: what each decides
 --   bit-same: two bits are equal if both are 1, or neither is
 --   pair: what two tests that passed show
 --   all f n, any f n: f passes at all, or at some, of the numbers below n; all-is, any-is: what they decide
@@ -13,6 +13,7 @@ use native.Mathlib.Omega.{arith}
 use native.Mathlib.Decide.{decLt}
 use borrow.Author.Tests.{eqb-true, eqb-false}
 use lib.Dec.{T, eqb, eqb→eq, eqb-refl, leb, leb→le, le→leb, ltb, ltb→lt, lt→ltb}
+use Rattle.scope.specs.Tests.{Tests}
 
 pub which : (b : Bool) → (b ≡ true) ⊎ (b ≡ false)
 which true = inl refl
@@ -38,10 +39,6 @@ pub T→ : (b : Bool) → T b → b ≡ true
 T→ true t = refl
 
 -- ---- deciding
-
-pub record Tests (b : Bool) (A : Type 0) : Type 0 where
-  pub sound : b ≡ true → A
-  pub full : A → b ≡ true
 
 pub never : {A : Type 0} → (A → ⊥) → Tests false A
 never n = record { sound = λ e. absurd (false≢true e); full = λ a. absurd (n a) }

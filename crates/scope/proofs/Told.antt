@@ -9,11 +9,11 @@ use mathlib.Core.List.{List}
 use native.Mathlib.Omega.{arith}
 use lib.ListN.{length}
 use Rattle.scope.specs.Machine.{Machine, run, Same, Closed}
-use Rattle.scope.specs.Rounds.{aside, Rounds}
+use Rattle.scope.specs.Rounds.{aside, Rounds, Enough}
 use Rattle.scope.specs.Demands.{StateOf, of-left, of-right, Tells, Suffices}
 use Rattle.scope.proofs.Tests.{split}
 use Rattle.scope.proofs.Chain.{first-not}
-use Rattle.scope.proofs.Rounds.{together-either, rests-same, rests-enough, Enough}
+use Rattle.scope.proofs.Rounds.{together-either, rests-same, rests-enough}
 use Rattle.scope.proofs.Aside.{aside-closed, left-run, right-run}
 use Rattle.scope.proofs.Separate.{spell}
 

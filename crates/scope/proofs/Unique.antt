@@ -11,10 +11,10 @@ use native.Mathlib.Omega.{arith}
 use lib.ListN.{getD}
 use Rattle.scope.specs.Limits.{byteValues, classesAt, marksAt, cellsAt}
 use Rattle.scope.specs.Machine.{Machine, Same, Equal, Closed, Reached}
-use Rattle.scope.specs.Room.{statesOf, classesOf, classOf, markOf, nextOf, machine, Sound}
+use Rattle.scope.specs.Room.{statesOf, classesOf, classOf, markOf, nextOf, machine, Sound, SameBytes}
 use Rattle.scope.specs.Canonical.{met, entry, Canonical}
 use Rattle.scope.proofs.Tests.{split, bit-same}
-use Rattle.scope.proofs.Room.{SameBytes, SameParts, bytes-from-parts}
+use Rattle.scope.proofs.Room.{SameParts, bytes-from-parts}
 use Rattle.scope.proofs.Run.{run-below, run-agree, sound-closed}
 use Rattle.scope.proofs.Least.{least}
 use Rattle.scope.proofs.Arrival.{met-grow, met-above, arrival-one}

@@ -16,7 +16,7 @@ use Rattle.scope.specs.Buffers.{Written, Lent}
 use Rattle.scope.specs.Pack.{Packs, no-output, packed}
 use Rattle.scope.specs.Unpack.{Unpacks, no-room, no-form, unpacked}
 use Rattle.scope.proofs.Buffers.{cleared-one, untouched-one, tail-one}
-use Rattle.scope.proofs.Room.{SameBytes}
+use Rattle.scope.specs.Room.{SameBytes}
 use Rattle.scope.proofs.Laid.{one-form}
 
 -- two results of one call: the numbers, the rooms, the scratch

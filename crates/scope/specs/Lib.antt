@@ -3,6 +3,7 @@
 -- What is built; the numbers that bound the work
 pub mod Limits
 pub mod Bytes
+pub mod Tests
 -- The pattern language, and what expressions mean
 pub mod Tree
 pub mod Grammar
@@ -29,6 +30,9 @@ pub mod Compare
 pub mod Form
 pub mod Pack
 pub mod Unpack
+-- What contracts of the passes cite, though it is no rule of 01
+pub mod Modes
+pub mod Laid
 -- The three demands, on the contracts
 pub mod Demands
 -- The program's lines, and the sample patterns

@@ -4,12 +4,17 @@
 --   Together M r p q: after round r the states p and q are in one part
 --   Rests M r: nothing splits after round r
 --   Rounds M r: r is the least such number
-use Prim.Native.Nat.{ℕ, zero, suc, _+_, _-_, _<_}
+--   Untold M r p q: no string of at most r bytes tells p from q
+--   Enough M r: strings of at most r bytes tell apart any two states that some string does
+use Prim.Native.Nat.{ℕ, zero, suc, _+_, _-_, _≤_, _<_}
 use mathlib.Core.Path.{_≡_}
 use mathlib.Core.Bool.{cond}
+use mathlib.Core.List.{List}
 use lib.Dec.{ltb}
+use lib.ListN.{length}
 use Rattle.scope.specs.Limits.{byteValues}
-use Rattle.scope.specs.Machine.{Machine}
+use Rattle.scope.specs.Bytes.{Bytes}
+use Rattle.scope.specs.Machine.{Machine, run, Same}
 
 abbrev pub aside : Machine → Machine → Machine
 aside M N = record {
@@ -28,3 +33,10 @@ Rests M r = (p q : ℕ) → p < M .states → q < M .states → Together M r p q
 pub record Rounds (M : Machine) (r : ℕ) : Type 0 where
   pub rests : Rests M r
   pub least : (k : ℕ) → k < r → Rests M k → ⊥
+
+abbrev pub Untold : Machine → ℕ → ℕ → ℕ → Type 0
+Untold M r p q = (w : List ℕ) → Bytes w → length w ≤ r → M .accepts (run M p w) ≡ M .accepts (run M q w)
+
+-- "the least length within which any two states .. that some string tells apart are told apart": that such a length is
+abbrev pub Enough : Machine → ℕ → Type 0
+Enough M r = (p q : ℕ) → p < M .states → q < M .states → Untold M r p q → Same M p M q

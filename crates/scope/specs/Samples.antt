@@ -3,7 +3,7 @@
 --   roomOf g: the room of that machine, byte by byte
 --   Compiled g: compiling the pattern gives that room
 --   positions l: the set of the positions l, as a number
---   Row, Says: a row, and what it says
+--   Row, Says: a row, and what it says; Each l: what each row of a list says
 --   rows: the rows of 01
 use Prim.Native.Nat.{ℕ, zero, suc, _+_, _-_, _*_, _/_, _%_, _^_, _≤_, _<_}
 use Prim.Native.String.{String}
@@ -121,6 +121,10 @@ Says (compared g h c w r) =
 Says (syntax s i) = SyntaxAt s i
 Says (falls s i) = (t : Tree) × Pattern s t × RangeAt t i
 Says (prints a b c l) = printed a b c ≡ l
+
+abbrev pub Each : List Row → Type 0
+Each [] = Unit {0}
+Each (r ∷ l) = Says r × Each l
 
 -- ---- the rows
 

@@ -1,6 +1,8 @@
 -- One element more: the laws of the loops, and what they give at the end.
 --   holds, fails: a test that came out; and-true, and-false: a second test after it
---   stored-none, stored-more, stored-written: nothing stored; one element more; stored from the start on, as scope says it
+--   stored-none, stored-more, stored-then: nothing stored; one element more; two parts side by side
+--   stored-from, stored-next: nothing, and one element more, by how far it is from the start
+--   stored-written, written-stored: stored from the start on, as scope says it; written-start, written-more: nothing is written, one element more
 --   alike-more, alike-not: the comparison so far, with one element more that is the same, or not
 --   most-new, most-old: a bound of the elements so far, with one element more that is above it, or not
 --   most-join: a bound of two adjoining parts; or-zero: a union is 0 exactly if both sides are
@@ -11,7 +13,7 @@
 --   part-all, written-part: a part that goes to the end is what is left; what is copied from it
 --   cleared-after: the scratch in the end, whatever was written before; all-kept, of scope: what is not touched
 use Prim.Native.Nat.{ℕ, _+_, _-_, _≤_, _<_}
-use mathlib.Core.Path.{_≡_, refl, _∙_}
+use mathlib.Core.Path.{_≡_, refl, sym, ap, _∙_}
 use mathlib.Core.Bool.{Bool, true, false, false≢true, true≢false}
 use mathlib.Core.Logic.{inl, inr, ⊎-elim, _↔_}
 use mathlib.Core.List.{List}
@@ -61,9 +63,41 @@ stored-more {a} {b} {from} {i} {f} {v} lt le e s = record {
       ∙ s .outside j (⊎-elim (λ x. inl x) (λ x. inr (omega arith)) h);
 }
 
+-- two parts side by side
+pub stored-then : {a b c : List ℕ} {from mid to : ℕ} {f g : ℕ → ℕ} → from ≤ mid → mid ≤ to → Stored a b from mid g → Stored b c mid to f
+    → ((i : ℕ) → i < to → mid ≤ i → f i ≡ g i) → Stored a c from to g
+stored-then {mid = mid} h k s t e = record {
+  size = t .size ∙ s .size;
+  inside = λ i l g. elim (split i mid) [ inl x ↦ t .outside i (inl x) ∙ s .inside i x g | inr x ↦ t .inside i l x ∙ e i l x ];
+  outside = λ i o. t .outside i (⊎-elim (λ x. inl (omega arith)) (λ x. inr x) o) ∙ s .outside i (⊎-elim (λ x. inl x) (λ x. inr (omega arith)) o);
+}
+
+-- nothing is stored, at a distance from the start
+pub stored-from : (m : List ℕ) (from : ℕ) (f : ℕ → ℕ) → Stored m m from (from + 0) f
+stored-from m from f = let e : from + 0 ≡ from = omega arith in rw e (stored-none m from f)
+
+-- one element more, at a distance from the start
+pub stored-next : (g : ℕ → ℕ) {a b : List ℕ} {from i v : ℕ} → from + i < length a → v ≡ g i → Stored a b from (from + i) (λ j. g (j - from))
+    → Stored a (set b (from + i) v) from (from + (i + 1)) (λ j. g (j - from))
+stored-next g {from = from} {i} h e s =
+    let d : from + i - from ≡ i = omega arith in
+    let n : from + i + 1 ≡ from + (i + 1) = omega arith in
+    rw n at (stored-more h (omega arith) (e ∙ ap g (sym d)) s)
+
 -- stored from the start on
 pub stored-written : {a b : List ℕ} {n : ℕ} {f : ℕ → ℕ} → Stored a b 0 n f → Written n f a b
 stored-written s = record { size = s .size; inside = λ i h. s .inside i h (omega arith); outside = λ i h. s .outside i (inr h) }
+
+pub written-stored : {a b : List ℕ} {n : ℕ} {f : ℕ → ℕ} → Written n f a b → Stored a b 0 n f
+written-stored w = record { size = w .size; inside = λ i h k. w .inside i h; outside = λ i h. w .outside i (⊎-elim (λ x. omega arith) (λ x. x) h) }
+
+-- nothing is written
+pub written-start : (f : ℕ → ℕ) (m : List ℕ) → Written 0 f m m
+written-start f m = stored-written (stored-none m 0 f)
+
+-- one element more
+pub written-more : (f : ℕ → ℕ) (i v : ℕ) (m m′ : List ℕ) → i < length m → v ≡ f i → Written i f m m′ → Written (i + 1) f m (set m′ i v)
+written-more f i v m m′ l e w = stored-written (stored-more l (omega arith) e (written-stored w))
 
 -- one element more that is the same
 pub alike-more : {r : Bool} (a b : List ℕ) (i : ℕ) → getD a i 0 ≡ getD b i 0 → Decides r (Alike a b i) → Decides r (Alike a b (i + 1))

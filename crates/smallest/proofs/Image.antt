@@ -19,11 +19,10 @@ use Rattle.scope.proofs.Tests.{below, not-below}
 use Rattle.scope.proofs.Agree.{Agree, agree-same, agree-reached}
 use Rattle.scope.proofs.Arrival.{arrival-ext}
 use Rattle.slices.specs.Parts.{Stored}
-use Rattle.slices.proofs.Laws.{stored-none, stored-more, stored-written}
+use Rattle.slices.proofs.Laws.{stored-none, stored-more, stored-written, stored-then}
 use Rattle.smallest.specs.declared.Plan.{Plan}
 use Rattle.smallest.specs.Numbering.{Rows, smaller}
 use Rattle.smallest.specs.Image.{Planned, tableCell, tableByte, imageByte}
-use Rattle.smallest.proofs.Stored.{stored-then}
 use Rattle.smallest.proofs.Table.{flat}
 
 module _ (a : List ℕ) (p : Plan) (i : ℕ) where

@@ -5,6 +5,5 @@ pub mod Numbering
 pub mod Classes
 pub mod Image
 pub mod Stays
-pub mod Stored
 pub mod Table
 pub mod Ready

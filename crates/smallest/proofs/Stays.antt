@@ -9,11 +9,11 @@ use native.Mathlib.Nat.{mod-lt, div-add-mod', div-lt-iff-lt-mul}
 use native.Mathlib.Omega.{arith}
 use lib.ListN.{length, getD}
 use Rattle.scope.specs.Limits.{classesAt, cellsAt, roomBytes}
-use Rattle.scope.specs.Room.{statesOf, classesOf, machine, Sound}
+use Rattle.scope.specs.Room.{statesOf, classesOf, machine, Sound, SameBytes}
 use Rattle.scope.specs.Canonical.{Canonical}
 use Rattle.scope.specs.Samples.{listed}
 use Rattle.scope.proofs.Table.{listed-length, listed-at}
-use Rattle.scope.proofs.Room.{SameBytes, bytes-from-parts}
+use Rattle.scope.proofs.Room.{bytes-from-parts}
 use Rattle.scope.proofs.Run.{sound-closed}
 use Rattle.scope.proofs.Agree.{agree-same}
 use Rattle.scope.proofs.Moved.{moved-agree, canonical-moved}

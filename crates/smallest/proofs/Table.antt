@@ -10,9 +10,8 @@ use lib.ListN.{getD}
 use Rattle.scope.specs.Limits.{classLimit, stateLimit, cellsAt, roomBytes}
 use Rattle.scope.specs.Room.{cellOf}
 use Rattle.slices.specs.Parts.{Stored}
-use Rattle.slices.proofs.Laws.{stored-none}
+use Rattle.slices.proofs.Laws.{stored-none, stored-then}
 use Rattle.smallest.specs.Image.{tableByte}
-use Rattle.smallest.proofs.Stored.{stored-then}
 
 -- the place of the row q and the class c, and back
 pub flat : (k q c : ℕ) → c < k → ((q * k + c) / k ≡ q) × ((q * k + c) % k ≡ c)

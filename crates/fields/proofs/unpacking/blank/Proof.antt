@@ -6,7 +6,7 @@ use lib.ListN.{length-set}
 use Rattle.scope.specs.Limits.{roomBytes}
 use Rattle.scope.specs.Buffers.{Written}
 use borrow.Author.Needs.{needs}
-use Rattle.fields.proofs.Buffers.{written-start, written-more}
+use Rattle.slices.proofs.Laws.{written-start, written-more}
 use Rattle.fields.proofs.Taken.{blanked}
 use Rattle.fields.proofs.unpacking.blank.Statement.{statement}
 use Rattle.fields.proofs.unpacking.blank.Tie as tie

@@ -1,7 +1,7 @@
 -- Each test is one that all bytes with an image pass; past the last byte all bits are 0, so the filling is the last thing to test.
 use mathlib.Core.Path.{_∙_}
 use native.Mathlib.Omega.{arith}
-use Rattle.scope.proofs.Fields.{Holds}
+use Rattle.scope.specs.Laid.{Holds}
 use borrow.Author.Needs.{needs}
 use Rattle.fields.specs.Fields.{formBit}
 use Rattle.fields.proofs.Taken.{no-number, no-size, judged-not, judged}

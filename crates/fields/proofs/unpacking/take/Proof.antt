@@ -1,7 +1,7 @@
 -- A field of at most seven bits ends within the byte behind the one it begins in.
 use Prim.Native.Nat.{ℕ, _-_, _/_, _%_}
 use native.Mathlib.Omega.{arith}
-use Rattle.scope.proofs.Fields.{Holds}
+use Rattle.scope.specs.Laid.{Holds}
 use borrow.Author.Needs.{needs}
 use Rattle.fields.specs.Fields.{formBit}
 use Rattle.fields.proofs.Fields.{holds-lt, form-bit, field-of}

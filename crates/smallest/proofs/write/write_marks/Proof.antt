@@ -7,7 +7,7 @@ use lib.ListN.{getD}
 use Rattle.scope.specs.Limits.{marksAt}
 use Rattle.scope.specs.Room.{markOf}
 use Rattle.slices.specs.Parts.{Stored}
-use Rattle.smallest.proofs.Stored.{stored-from, stored-next}
+use Rattle.slices.proofs.Laws.{stored-from, stored-next}
 use Rattle.smallest.proofs.write.write_marks.Statement.{statement}
 use Rattle.smallest.proofs.write.write_marks.Tie as tie
 

@@ -8,7 +8,7 @@ use lib.ListN.{getD}
 use Rattle.scope.specs.Room.{cellOf}
 use Rattle.slices.specs.Parts.{Stored}
 use Rattle.smallest.proofs.Swept.{cell-in}
-use Rattle.smallest.proofs.Stored.{stored-from, stored-next}
+use Rattle.slices.proofs.Laws.{stored-from, stored-next}
 use Rattle.smallest.proofs.write.write_row.Statement.{statement}
 use Rattle.smallest.proofs.write.write_row.Tie as tie
 

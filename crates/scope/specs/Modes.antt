@@ -1,3 +1,4 @@
+-- No rule of 01, but what the contracts of judging and the theorems on SYNTAX cite: SYNTAX itself is defined by the grammar and by continuations alone (Judge).
 -- A machine that reads a text byte by byte and knows, after each byte, whether a legal text can still come of it. It has a few modes and a count of open
 -- parentheses. A mode says which piece of the grammar the text has come to, and how far: the piece is awaited, it is done, or its escape has come to the
 -- backslash, to the `x`, or to the first digit. There are three pieces: an atom; a byte in a class, which may be the low end of a range; and the high end of
