@@ -1,4 +1,5 @@
 -- The form of a room, field by field: a bit sequence is laid out for a room, and either determines the other.
+--   form-first: the first byte of a form begins with the form's number
 --   form-laid: the bits of a form are laid out so
 --   laid-one, bits-one, one-form: the bits have one room, the room one sequence of bits, and a form one room
 use Prim.Native.Nat.{ℕ, zero, suc, _+_, _-_, _*_, _/_, _%_, _^_, _≤_, _<_}
@@ -12,12 +13,12 @@ use lib.ListN.{length, getD, take, drop, length-append, List·getD-eq-default}
 use lib.Seq.{getD-take, getD-drop}
 use Rattle.scope.specs.Limits.{byteValues, classLimit, stateLimit, classesAt, marksAt, cellsAt, roomBytes}
 use Rattle.scope.specs.Room.{statesOf, classesOf, Below, Sound}
-use Rattle.scope.specs.Form.{stateBits, bits, fields, formBits, formLength, formByte, FormOf}
+use Rattle.scope.specs.Form.{stateBits, bits, fields, value, formBits, formLength, formByte, FormOf}
 use Rattle.scope.specs.Laid.{bitOf, from, Holds, classesBit, marksBit, cellsBit, endBit, Laid, Framed}
 use Rattle.scope.proofs.Tests.{split}
 use Rattle.scope.proofs.Room.{SameParts, bytes-from-parts}
 use Rattle.scope.proofs.Form.{bits-length, fields-length, part-length, form-bits}
-use Rattle.scope.proofs.Fields.{Bits, value-ext, value-one, bits-at, fields-at, bits-are, fields-are, join-are}
+use Rattle.scope.proofs.Fields.{Bits, value-ext, value-lt, value-join, value-one, bits-at, fields-at, bits-are, fields-are, join-are}
 
 pub framed : (m : List ℕ) → Sound m → Framed m
 framed m s = record { some-state = s .some-state; some-class = s .some-class; marks-off = s .marks-off; cells-off = s .cells-off }
@@ -82,6 +83,15 @@ form-are m =
     let de : Bits (d ++ (e ++ f)) = join-are d (e ++ f) (fields-are 6 (take byteValues (drop classesAt m))) (join-are e f (fields-are 1 (take (statesOf m) (drop marksAt m))) (fields-are 7 (take (statesOf m * classesOf m) (drop cellsAt m)))) in
     join-are a (b ++ (c ++ (d ++ (e ++ f)))) (bits-are 4 1)
     (join-are b (c ++ (d ++ (e ++ f))) (bits-are 7 (statesOf m - 1)) (join-are c (d ++ (e ++ f)) (bits-are 6 (classesOf m - 1)) de))
+
+number-first : (m : List ℕ) → value 4 (bitOf (formBits m)) ≡ 1
+unfolding formBits bits value
+number-first m = refl
+
+-- the first byte begins with the form's number: "most significant first"
+pub form-first : (m : List ℕ) → formByte m 0 / 16 ≡ 1
+unfolding formByte
+form-first m = omega (arith, value-join 4 4 (bitOf (formBits m)), number-first m, value-lt 4 (λ j. bitOf (formBits m) (4 + j)) (λ j h. form-are m (4 + j)))
 
 length-two : (k l : List ℕ) (p n : ℕ) → length k ≡ p → length l ≡ n → length (k ++ l) ≡ p + n
 length-two k l p n e f = length-append k l ∙ rw (e, f)
