@@ -5,6 +5,8 @@ use std::fmt;
 use crate::case::{form_length, Case, Operation};
 use crate::run::{both, Outcome};
 use crate::written::{hex, read};
+use second::machine::head;
+use second::sets::{Automaton, Set};
 
 mod desk;
 
@@ -109,17 +111,18 @@ fn pattern(row: &[&str]) -> Result<(), String> {
 }
 
 /// The room's n and k and the length of its form, which unpacks to the room again.
-fn packed(room: &[u8]) -> Result<(u8, u8, usize), String> {
+fn packed(room: &[u8]) -> Result<(usize, usize, usize), String> {
     let pack = outcome(Operation::Pack, &[room])?;
     let (number, length, _) = pack.answer;
-    if number != 0 || length != form_length(usize::from(room[0]), usize::from(room[1])) {
+    let (states, classes) = head(room);
+    if number != 0 || length != form_length(states, classes) {
         return Err(format!("packing answers {number}, length {length}"));
     }
     let back = outcome(Operation::Unpack, &[&pack.output[..length]])?;
     if back.answer.0 != 0 || back.output != room {
         return Err("unpacking gives another room".to_string());
     }
-    Ok((room[0], room[1], length))
+    Ok((states, classes, length))
 }
 
 /// `PATTERN -> ROWS ACCEPTING`: the table's rows between `/`, cells between commas; the accepting states between commas, or `-`.
@@ -236,11 +239,10 @@ fn form(row: &[&str]) -> Result<(), String> {
 /// `PATTERN -> NULLABLE FIRST LAST FOLLOW`: sets of positions, which only the second program shows.
 fn positions(row: &[&str]) -> Result<(), String> {
     let tree = second::text::tree(&bytes(row[0])?).ok_or("not a legal pattern")?;
-    let automaton = second::sets::Automaton::new(&tree);
-    let set = |set: u64| listed((0..64).filter(|at| set >> at & 1 == 1).collect());
-    let follow: Vec<String> = (1..=tree.positions.len())
-        .map(|at| set(automaton.follow(at)))
-        .collect();
+    let automaton = Automaton::new(&tree);
+    let size = tree.positions.len();
+    let set = |set: Set| listed((0..=size).filter(|&at| set.has(at)).collect());
+    let follow: Vec<String> = (1..=size).map(|at| set(automaton.follow(at))).collect();
     let null = if automaton.null() { "nullable" } else { "not" };
     let (first, last) = (set(automaton.first()), set(automaton.last()));
     expect(

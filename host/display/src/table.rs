@@ -38,13 +38,13 @@ impl Table {
     /// The states that a state leads to, one for each class of bytes.
     fn row(&self, state: usize) -> &[u8] {
         let classes = self.machine.classes();
-        let cells = &self.machine.room()[2 + 256 + limits::STATES..];
+        let cells = &self.machine.room()[limits::CELLS_AT..];
         &cells[state * classes..(state + 1) * classes]
     }
 
     /// The state that a byte leads to.
     pub fn next(&self, state: usize, byte: u8) -> usize {
-        let class = self.machine.room()[2 + usize::from(byte)];
+        let class = self.machine.room()[limits::CLASSES_AT + usize::from(byte)];
         usize::from(self.row(state)[usize::from(class)])
     }
 
@@ -56,7 +56,7 @@ impl Table {
 
     /// Whether a text that leads to this state is accepted.
     pub fn accepts(&self, state: usize) -> bool {
-        self.machine.room()[2 + 256 + state] == 1
+        self.machine.room()[limits::MARKS_AT + state] == 1
     }
 
     /// The fewest bytes that lead from a state to acceptance; none, if there is no way.

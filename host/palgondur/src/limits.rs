@@ -10,8 +10,14 @@ pub const POSITIONS: usize = 63;
 pub const CLASSES: usize = 64;
 /// Sets reached in compiling, and states of a machine, at most.
 pub const STATES: usize = 128;
-/// Bytes of a machine room: the two numbers, the class of each byte value, the accept marks, the cells.
-pub const ROOM: usize = 2 + 256 + STATES + STATES * CLASSES;
+/// Where the class of each byte value begins in a machine room, after the two numbers.
+pub const CLASSES_AT: usize = 2;
+/// Where the accept marks begin.
+pub const MARKS_AT: usize = CLASSES_AT + 256;
+/// Where the cells begin, by row.
+pub const CELLS_AT: usize = MARKS_AT + STATES;
+/// Bytes of a machine room.
+pub const ROOM: usize = CELLS_AT + STATES * CLASSES;
 /// Bytes of a packed form, at most: its bit fields, filled to a whole byte.
 pub const FORM: usize = (4 + 7 + 6 + 256 * 6 + STATES + STATES * CLASSES * 7 + 7) / 8;
 /// Bytes of a separating string, at most.

@@ -27,7 +27,7 @@ pub const SCRATCH_BYTES: usize = 32768;
 /// Eight-byte words of scratch.
 pub const SCRATCH_WORDS: usize = 256;
 /// Room for a separating string.
-pub const WORD: usize = 254;
+pub const WORD: usize = 2 * STATES - 2;
 
 /// Most fields of an entry form.
 pub const FIELDS: usize = 16;

@@ -40,7 +40,7 @@ impl Machine {
     /// The machine in a room, if the room is long enough and sound.
     pub fn read(room: &[u8]) -> Option<Machine> {
         let room = room.get(..ROOM)?;
-        let (states, classes) = (usize::from(room[0]), usize::from(room[1]));
+        let (states, classes) = head(room);
         if !(1..=STATES).contains(&states) || !(1..=CLASSES).contains(&classes) {
             return None;
         }
@@ -82,7 +82,12 @@ impl Machine {
     }
 }
 
-/// Whether the first 8,578 bytes of the room are there and sound.
+/// The numbers of states and of classes that a room says.
+pub fn head(room: &[u8]) -> (usize, usize) {
+    (usize::from(room[0]), usize::from(room[1]))
+}
+
+/// Whether the bytes of a room are there and sound.
 pub fn sound(room: &[u8]) -> bool {
     Machine::read(room).is_some()
 }

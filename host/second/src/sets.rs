@@ -2,7 +2,7 @@
 //!
 //! Each node of the tree has an entry and an exit; empty steps join them, and a position is the one step from its entry to its
 //! exit that reads a byte. The set that a text reaches is the set of positions that can be the one read last; the text that has
-//! no byte reaches {0}. In a set, bit p stands for position p.
+//! no byte reaches {0}.
 
 use std::collections::HashMap;
 
@@ -10,7 +10,44 @@ use crate::limits;
 use crate::machine::Machine;
 use crate::text::{Node, Position, Tree};
 
-/// The automaton of a tree of at most 63 positions.
+/// How many words of 64 bits a set has.
+const WORDS: usize = limits::POSITIONS / 64 + 1;
+
+/// A set of positions, of which 0 stands for the start: bit p % 64 of the word p / 64 is that of position p.
+#[derive(Clone, Copy, PartialEq, Eq, Debug, Hash)]
+pub struct Set([u64; WORDS]);
+
+impl Set {
+    /// The set of one position.
+    fn one(position: usize) -> Set {
+        [position].into_iter().collect()
+    }
+
+    /// Whether the set has the position.
+    pub fn has(&self, position: usize) -> bool {
+        self.0[position / 64] >> (position % 64) & 1 == 1
+    }
+
+    /// The positions that both sets have.
+    fn common(mut self, other: &Set) -> Set {
+        for (word, other) in self.0.iter_mut().zip(other.0) {
+            *word &= other;
+        }
+        self
+    }
+}
+
+impl FromIterator<usize> for Set {
+    fn from_iter<I: IntoIterator<Item = usize>>(positions: I) -> Set {
+        let mut words = [0; WORDS];
+        for position in positions {
+            words[position / 64] |= 1 << (position % 64);
+        }
+        Set(words)
+    }
+}
+
+/// The automaton of a tree of no more positions than are taken.
 pub struct Automaton {
     steps: Vec<Vec<usize>>,
     entries: Vec<usize>,
@@ -68,13 +105,13 @@ impl Automaton {
     }
 
     /// Which entries and exits empty steps reach after the positions of a set.
-    fn closure(&self, set: u64) -> Vec<bool> {
+    fn closure(&self, set: &Set) -> Vec<bool> {
         let mut reached = vec![false; self.steps.len()];
         let mut waiting: Vec<usize> = (1..self.entries.len())
-            .filter(|&position| set >> position & 1 == 1)
+            .filter(|&position| set.has(position))
             .map(|position| self.entries[position] + 1)
             .collect();
-        if set & 1 == 1 {
+        if set.has(0) {
             waiting.push(START);
         }
         while let Some(at) = waiting.pop() {
@@ -86,48 +123,46 @@ impl Automaton {
     }
 
     /// The positions that can be read next after a set, and whether the text may end there.
-    fn after(&self, set: u64) -> (u64, bool) {
+    fn after(&self, set: &Set) -> (Set, bool) {
         let reached = self.closure(set);
         let next = (1..self.entries.len())
             .filter(|&position| reached[self.entries[position]])
-            .fold(0, |next, position| next | 1 << position);
+            .collect();
         (next, reached[END])
     }
 
     /// Whether the expression has the empty word.
     pub fn null(&self) -> bool {
-        self.after(1).1
+        self.after(&Set::one(0)).1
     }
 
     /// The positions that can be read first.
-    pub fn first(&self) -> u64 {
-        self.after(1).0
+    pub fn first(&self) -> Set {
+        self.after(&Set::one(0)).0
     }
 
     /// The positions that can be read last.
-    pub fn last(&self) -> u64 {
+    pub fn last(&self) -> Set {
         (1..self.entries.len())
-            .filter(|&position| self.after(1 << position).1)
-            .fold(0, |last, position| last | 1 << position)
+            .filter(|&position| self.after(&Set::one(position)).1)
+            .collect()
     }
 
     /// The positions that can be read after a position.
-    pub fn follow(&self, position: usize) -> u64 {
-        self.after(1 << position).0
+    pub fn follow(&self, position: usize) -> Set {
+        self.after(&Set::one(position)).0
     }
 
     /// The positions that hold a byte.
-    fn holding(&self, byte: u8) -> u64 {
-        self.positions
-            .iter()
-            .enumerate()
-            .filter(|(_, position)| position.holds.has(byte))
-            .fold(0, |set, (at, _)| set | 2 << at)
+    fn holding(&self, byte: u8) -> Set {
+        (1..self.entries.len())
+            .filter(|&position| self.positions[position - 1].holds.has(byte))
+            .collect()
     }
 
     /// The pattern class of each byte value, numbered by smallest byte, and the number of classes.
     pub fn pattern_classes(&self) -> (Vec<usize>, usize) {
-        let mut known: Vec<u64> = Vec::new();
+        let mut known: Vec<Set> = Vec::new();
         let class = (0..limits::BYTES)
             .map(|byte| {
                 let held = self.holding(byte as u8);
@@ -144,7 +179,7 @@ impl Automaton {
     }
 
     /// The sets reached from {0}, in order of arrival, as a machine; none if they are more than `most`.
-    pub fn reached(&self, most: usize) -> Option<(Vec<u64>, Machine)> {
+    pub fn reached(&self, most: usize) -> Option<(Vec<Set>, Machine)> {
         let (class, classes) = self.pattern_classes();
         let mut machine = Machine {
             states: 0,
@@ -153,19 +188,20 @@ impl Automaton {
             marks: Vec::new(),
             cells: Vec::new(),
         };
-        let holding: Vec<u64> = machine
+        let holding: Vec<Set> = machine
             .samples()
             .into_iter()
             .map(|byte| self.holding(byte))
             .collect();
-        let mut sets = vec![1];
-        let mut known = HashMap::from([(1, 0)]);
+        let start = Set::one(0);
+        let mut sets = vec![start];
+        let mut known = HashMap::from([(start, 0)]);
         while machine.states < sets.len() {
-            let (next, accepts) = self.after(sets[machine.states]);
+            let (next, accepts) = self.after(&sets[machine.states]);
             machine.marks.push(accepts);
             machine.states += 1;
             for held in &holding {
-                let set = next & held;
+                let set = next.common(held);
                 let fresh = sets.len();
                 let number = *known.entry(set).or_insert(fresh);
                 if number == fresh {

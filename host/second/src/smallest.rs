@@ -147,7 +147,7 @@ pub fn smallest(machine: &Machine) -> Machine {
     }
 }
 
-/// Whether the first 8,578 bytes of the room are a canonical machine's.
+/// Whether the bytes of a room are a canonical machine's.
 pub fn canonical(room: &[u8]) -> bool {
     Machine::read(room).map_or(false, |machine| smallest(&machine) == machine)
 }

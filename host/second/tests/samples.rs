@@ -2,7 +2,8 @@
 
 use second::answer::*;
 use second::limits;
-use second::sets::Automaton;
+use second::machine::head;
+use second::sets::{Automaton, Set};
 
 /// A compiled pattern: its answer and place, and the room's first bytes.
 fn compiled(pattern: &[u8]) -> ((u8, usize), Vec<u8>) {
@@ -21,10 +22,8 @@ fn room(pattern: &[u8]) -> Vec<u8> {
 }
 
 /// A set of positions from their numbers.
-fn set(positions: &[usize]) -> u64 {
-    positions
-        .iter()
-        .fold(0, |set, position| set | 1 << position)
+fn set(positions: &[usize]) -> Set {
+    positions.iter().copied().collect()
 }
 
 const PARITY: &[u8] = b"([03569ACF][12478BDE]|[12478BDE][03569ACF])";
@@ -77,8 +76,7 @@ fn rooms() {
     for (pattern, table, accepting) in rows {
         let room = room(pattern);
         assert!(second::sound(&room) && second::canonical(&room));
-        assert_eq!(usize::from(room[0]), table.len());
-        assert_eq!(usize::from(room[1]), table[0].len());
+        assert_eq!(head(&room), (table.len(), table[0].len()));
         let cells = table.concat();
         assert_eq!(room[limits::CELL_AT..limits::CELL_AT + cells.len()], cells);
         let marks = &room[limits::MARK_AT..limits::CELL_AT];

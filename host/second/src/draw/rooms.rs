@@ -3,7 +3,7 @@
 use super::Draw;
 use crate::form;
 use crate::limits::{self, BYTES, CELL_AT, CLASS_AT, MARK_AT, ROOM, STATES};
-use crate::machine::Machine;
+use crate::machine::{head, Machine};
 
 /// A kind of damage to a room.
 #[derive(Clone, Copy, PartialEq, Eq, Debug)]
@@ -178,7 +178,7 @@ impl Draw {
     /// A sound room with damage of a kind; a changed byte or number may leave it sound.
     pub fn damaged_room(&mut self, room: &[u8], damage: RoomDamage) -> Vec<u8> {
         let mut room = room.to_vec();
-        let (states, classes) = (usize::from(room[0]), usize::from(room[1]));
+        let (states, classes) = head(&room);
         let used = CELL_AT + states * classes;
         let above = |draw: &mut Draw, least: usize| draw.between(least, 255) as u8;
         match damage {
