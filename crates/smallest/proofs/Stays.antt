@@ -19,9 +19,11 @@ use Rattle.scope.proofs.Agree.{agree-same}
 use Rattle.scope.proofs.Moved.{moved-agree, canonical-moved}
 use Rattle.scope.proofs.Unique.{unique}
 use Rattle.slices.specs.Parts.{Decides}
-use Rattle.smallest.specs.declared.Plan.{Plan}
-use Rattle.smallest.specs.Image.{Planned, imageByte, Stays}
-use Rattle.smallest.proofs.Image.{N, is-states, is-classes, is-class, is-mark, at-cell, some-class, states-few, table-few, image-sound, image-agree, image-canonical, image-equal}
+use Rattle.plan.specs.declared.Plan.{Plan}
+use Rattle.plan.specs.Planned.{Planned}
+use Rattle.writing.specs.Image.{imageByte}
+use Rattle.smallest.specs.Stays.{Stays}
+use Rattle.writing.proofs.Image.{N, is-states, is-classes, is-class, is-mark, at-cell, some-class, states-few, table-few, image-sound, image-agree, image-canonical, image-equal}
 
 module _ {a : List ℕ} {p : Plan} (d : Planned a p) where
   -- the image, as a list

@@ -1,26 +1,12 @@
 // Whether a plan changes nothing of its room: as many states and classes, each state its own number, each byte its own class. Then the cells and marks are the room's too.
-use crate::Plan;
+use plan::Plan;
 use scope::Machine;
 ghost use Prim.Native.Nat.{_≤_};
 ghost use lib.ListN.{length};
 ghost use Rattle.scope.specs.Limits.{byteValues, marksAt};
 ghost use Rattle.slices.specs.Parts.{Decides};
-ghost use Rattle.smallest.specs.Image.{Planned, SameOrder, SameClasses, Stays};
-
-// Whether each of the first n numbers stands for itself.
-pub fn is_same_order(order: &[u8], n: usize) -> bool
-    requires { ⌜ (n ≤ length (now order)) × (n ≤ byteValues) ⌝ }
-    ensures { λ r. ⌜ Decides r (SameOrder (now (order .entry)) n) ⌝ }
-{
-    let mut q: usize = 0;
-    while q < n {
-        if order[q] != q as u8 {
-            return false;
-        }
-        q += 1;
-    }
-    true
-}
+ghost use Rattle.plan.specs.Planned.{Planned};
+ghost use Rattle.smallest.specs.Stays.{SameClasses, Stays};
 
 // Whether the classes of the bytes are the room's.
 fn are_same_classes(room: &[u8], class: &[u8; Machine::BYTES]) -> bool
@@ -52,7 +38,7 @@ pub fn stays(room: &[u8], plan: Plan) -> bool
     if k != room[1] as usize {
         return false;
     }
-    if !is_same_order(order, n) {
+    if !plan::is_same_order(order, n) {
         return false;
     }
     are_same_classes(room, &class)

@@ -5,7 +5,7 @@ use borrow.Author.Needs.{needs}
 use borrow.Author.Count.{below-more}
 use Rattle.scope.specs.Limits.{byteValues}
 use Rattle.slices.proofs.Laws.{holds, fails}
-use Rattle.smallest.specs.Image.{SameClasses}
+use Rattle.smallest.specs.Stays.{SameClasses}
 use Rattle.smallest.proofs.stay.are_same_classes.Statement.{statement}
 use Rattle.smallest.proofs.stay.are_same_classes.Tie as tie
 
