@@ -1,10 +1,10 @@
 // The states: the parts of a room's states, numbered on first arrival, row by row, over the least byte of each kind. A byte of a kind leads where its least byte
 // leads, and that one is read before it, so no other byte can bring a new state.
 use scope::Machine;
-ghost use Prim.Native.Nat.{_+_, _≤_, _<_};
-ghost use Rattle.scope.specs.Limits.{byteValues, stateLimit};
+ghost use Prim.Native.Nat.{_+_, _*_, _≤_, _<_};
+ghost use Rattle.scope.specs.Limits.{stateLimit};
 ghost use Rattle.scope.specs.Room.{Below};
-ghost use Rattle.arrivals.specs.Swept.{Ready, Swept, Numbers, Numbered};
+ghost use Rattle.arrivals.specs.Swept.{Ready, Swept, Numbers, Arrived};
 
 // Numbers the parts to which the state q leads that have no number yet; how many have one then.
 fn sweep(
@@ -18,10 +18,11 @@ fn sweep(
     count: usize,
 ) -> usize
     requires { ⌜ Ready (now from) (now part) (now column) kinds ⌝ }
-    requires { ⌜ (q < count) × Swept (now from) (now part) (now column) (now order) (now number) kinds count q 0 ⌝ }
-    ensures { λ r. ⌜ (q < r) × Swept (now (from .entry)) (now (part .entry)) (now (column .entry)) (now (order .exit)) (now (number .exit)) kinds r (q + 1) 0 ⌝ }
+    requires { ⌜ (q < count) × Swept (now from) (now part) (now column) (now order) (now number) kinds count (q * kinds) ⌝ }
+    ensures { λ r. ⌜ (q < r) × Swept (now (from .entry)) (now (part .entry)) (now (column .entry)) (now (order .exit)) (now (number .exit)) kinds r ((q + 1) * kinds) ⌝ }
 {
-    let row = order[q] as usize * from[1] as usize;
+    let k = room::head(from).classes;
+    let row = order[q] as usize * k;
     let mut count = count;
     let mut i: usize = 0;
     while i < kinds {
@@ -36,20 +37,23 @@ fn sweep(
     count
 }
 
-// The number of the part of each of the first n states.
+// The number of the part of each of the first n states, where it has one: the count numbers are those below it.
 fn numbers(
     part: &[u16; parts::STATES],
     number: &[u16; Machine::STATES],
     n: usize,
+    count: usize,
 ) -> [u8; Machine::STATES]
-    requires { ⌜ n ≤ stateLimit ⌝ }
-    requires { ⌜ Below (now part) 0 n n × Below (now number) 0 n byteValues ⌝ }
-    ensures { λ r. ⌜ Numbers (now (part .entry)) (now (number .entry)) r n ⌝ }
+    requires { ⌜ (n ≤ stateLimit) × (count ≤ stateLimit) × Below (now part) 0 n n × Below (now number) 0 n (stateLimit + 1) ⌝ }
+    ensures { λ r. ⌜ Numbers (now (part .entry)) (now (number .entry)) r n count ⌝ }
 {
     let mut into = [0u8; Machine::STATES];
     let mut t: usize = 0;
     while t < n {
-        into[t] = number[part[t] as usize] as u8;
+        let v = number[part[t] as usize] as usize;
+        if v < count {
+            into[t] = v as u8;
+        }
         t += 1;
     }
     into
@@ -70,7 +74,7 @@ pub fn arrivals(
     kinds: usize,
 ) -> States
     requires { ⌜ Ready (now from) (now part) (now column) kinds ⌝ }
-    ensures { λ r. ⌜ Numbered (now (from .entry)) (now (part .entry)) (now (column .entry)) (r .order) (r .into) kinds (r .count) ⌝ }
+    ensures { λ r. ⌜ Arrived (now (from .entry)) (now (part .entry)) (now (column .entry)) (r .order) (r .into) kinds (r .count) ⌝ }
 {
     let mut order = [0u8; Machine::STATES];
     let mut number = [Machine::STATES as u16; Machine::STATES];
@@ -83,7 +87,7 @@ pub fn arrivals(
         count = sweep(from, part, column, kinds, q, &mut order, &mut number, count);
         q += 1;
     }
-    let into = numbers(part, &number, from[0] as usize);
+    let into = numbers(part, &number, room::head(from).states, count);
     States {
         order: order,
         into: into,

@@ -2,14 +2,15 @@
 // first of each class so far, so the classes are numbered by their smallest byte.
 use scope::Machine;
 ghost use Prim.Native.Nat.{_≤_, _<_};
-ghost use lib.ListN.{replicate};
+ghost use lib.ListN.{getD, replicate};
 ghost use Rattle.scope.specs.Limits.{byteValues};
 ghost use Rattle.scope.specs.Room.{classesOf, classOf, Below, Sound};
 ghost use Rattle.scope.specs.Buffers.{Written};
 ghost use Rattle.slices.specs.Parts.{Decides};
+ghost use Rattle.slices.specs.Numbered.{Found};
 ghost use Rattle.plan.specs.Smallest.{Rows};
 ghost use Rattle.plan.specs.Classed.{Alike};
-ghost use Rattle.merging.specs.Merged.{Distinct, Found, Merged, Mapped};
+ghost use Rattle.merging.specs.Merged.{Distinct, Merged, Mapped};
 
 // Whether the columns u and v lead each state to the same state.
 fn are_alike(
@@ -24,7 +25,7 @@ fn are_alike(
     requires { ⌜ (u < classesOf (now from)) × (v < classesOf (now from)) ⌝ }
     ensures { λ r. ⌜ Decides r (Alike (now (from .entry)) (now (order .entry)) (now (into .entry)) n u v) ⌝ }
 {
-    let k = from[1] as usize;
+    let k = room::head(from).classes;
     let mut q: usize = 0;
     while q < n {
         let row = order[q] as usize * k;
@@ -50,7 +51,7 @@ fn find(
 ) -> usize
     requires { ⌜ Rows (now from) (now order) n ⌝ }
     requires { ⌜ (k ≤ byteValues) × Below (now leader) 0 k (classesOf (now from)) × (u < classesOf (now from)) ⌝ }
-    ensures { λ r. ⌜ Found (now (from .entry)) (now (order .entry)) (now (into .entry)) (now (leader .entry)) n k u r ⌝ }
+    ensures { λ r. ⌜ Found (λ c. Alike (now (from .entry)) (now (order .entry)) (now (into .entry)) n (getD (now (leader .entry)) c 0) u) k r ⌝ }
 {
     let mut c: usize = 0;
     while c < k {
@@ -109,11 +110,7 @@ fn of_room(from: &[u8]) -> [u8; Machine::BYTES]
     ensures { λ r. ⌜ Written byteValues (classOf (now (from .entry))) (replicate byteValues 0) r ⌝ }
 {
     let mut class = [0u8; Machine::BYTES];
-    let mut x: usize = 0;
-    while x < Machine::BYTES {
-        class[x] = from[Machine::CLASSES_AT + x];
-        x += 1;
-    }
+    slices::copy(&from[Machine::CLASSES_AT..], &mut class, Machine::BYTES);
     class
 }
 
@@ -136,7 +133,7 @@ pub fn of_bytes(from: &[u8], sort: &[u8; Machine::BYTES]) -> [u8; Machine::BYTES
     requires { ⌜ Sound (now from) ⌝ }
     ensures { λ r. ⌜ Mapped (now (from .entry)) (now (sort .entry)) r ⌝ }
 {
-    if plan::is_same_order(sort, from[1] as usize) {
+    if plan::is_same_order(sort, room::head(from).classes) {
         return of_room(from);
     }
     of_table(from, sort)

@@ -1,3 +1,3 @@
-pub mod Arrival
+pub mod Finer
 pub mod Kinded
 pub mod Rows

@@ -16,12 +16,8 @@ module _ {a kind least column : List ℕ} {kinds : ℕ} (k : KindsOf a a kind le
   -- the column of a byte's kind is its class
   pub kinded : Kinded a kind least column kinds
   kinded = record {
-    few = k .few;
-    below = k .below;
+    finer = record { inside = k .below; place = k .byte; own = k .own; before = kind-before k };
     class = λ x h. c .inside (getD kind x 0) (k .below x h) ∙ k .left x h;
-    byte = k .byte;
-    own = k .own;
-    before = kind-before k;
   }
 
   -- kinds with one column have one least byte

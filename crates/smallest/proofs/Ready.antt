@@ -13,7 +13,7 @@ use Rattle.parts.specs.Refined.{Refined}
 use Rattle.parts.proofs.Refined.{left-parts}
 use Rattle.plan.specs.Smallest.{Rows}
 use Rattle.plan.specs.Planned.{Planned}
-use Rattle.arrivals.specs.Swept.{Ready, Numbered}
+use Rattle.arrivals.specs.Swept.{Ready, Arrived}
 use Rattle.arrivals.proofs.Swept.{swept-few}
 use Rattle.arrivals.proofs.Smallest.{smallest}
 use Rattle.merging.specs.Merged.{Merged, Mapped}
@@ -31,10 +31,10 @@ module _ {a kind least column part parent born : List ℕ} {kinds rounds : ℕ} 
     columns = λ j h g. rw (c .inside j h) (s .classes (classesAt + getD least j 0) (omega (arith, k .byte j h)) (omega arith));
   }
 
-  module _ {order into : List ℕ} {n : ℕ} (z : Numbered a part column order into kinds n) where
+  module _ {order into : List ℕ} {n : ℕ} (z : Arrived a part column order into kinds n) where
     -- the numbers stand for states
     pub rows : Rows a order n
-    rows = record { sound = s; few = omega (arith, swept-few s (ready .parts) (z .swept), s .few-states); inside = λ q h g. z .swept .back q h .inside }
+    rows = record { sound = s; few = omega (arith, swept-few s (z .swept), s .few-states); inside = λ q h g. z .swept .back q h .inside }
 
     -- numbered states and merged classes are the plan
     pub planned : {sort leader class : List ℕ} {i : ℕ} → Merged a order into column sort leader n i kinds → Mapped a sort class

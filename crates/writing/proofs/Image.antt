@@ -1,15 +1,15 @@
 -- The room that holds the bytes of a plan. Its parts are read back by one law each; so it is sound, holds the smallest machine, and is canonical.
---   at-states, at-classes, at-class, at-mark, at-gap, at-cell, at-rest: the parts of the image
+--   at-head, at-class, at-mark, at-gap, at-cell, at-rest: the parts of the image
 --   states-few, table-few: they fit a room
 --   image-canonical, image-equal: a room with these bytes is canonical, and accepts the same strings
 use Prim.Native.Nat.{ℕ, _+_, _-_, _*_, _/_, _%_, _≤_, _<_}
-use mathlib.Core.Path.{_≡_, sym, ap, _∙_}
+use mathlib.Core.Path.{_≡_, refl, sym, ap, _∙_}
 use mathlib.Core.Bool.{cond}
 use mathlib.Core.List.{List}
 use native.Mathlib.Nat.{mul-le-mul, mul-le-mul-right, mod-lt, div-lt-iff-lt-mul}
 use native.Mathlib.Omega.{arith}
 use lib.Dec.{eqb, ltb}
-use lib.ListN.{length, getD, set}
+use lib.ListN.{length, getD}
 use Rattle.scope.specs.Limits.{byteValues, classLimit, stateLimit, classesAt, marksAt, cellsAt, roomBytes}
 use Rattle.scope.specs.Machine.{Machine, Same, Equal, Closed}
 use Rattle.scope.specs.Room.{statesOf, classesOf, classOf, markOf, cellOf, nextOf, machine, Sound}
@@ -19,7 +19,8 @@ use Rattle.scope.proofs.Tests.{below, not-below}
 use Rattle.scope.proofs.Agree.{Agree, agree-same, agree-reached}
 use Rattle.scope.proofs.Arrival.{arrival-ext}
 use Rattle.slices.specs.Parts.{Stored}
-use Rattle.slices.proofs.Laws.{stored-none, stored-more, stored-written, stored-then}
+use Rattle.slices.proofs.Laws.{stored-none, stored-written, written-stored, stored-then}
+use Rattle.room.specs.Head.{headByte}
 use Rattle.plan.specs.declared.Plan.{Plan}
 use Rattle.plan.specs.Smallest.{Rows, smaller}
 use Rattle.plan.specs.Planned.{Planned}
@@ -27,33 +28,28 @@ use Rattle.plan.proofs.Rows.{flat}
 use Rattle.writing.specs.Image.{tableCell, tableByte, imageByte}
 
 module _ (a : List ℕ) (p : Plan) (i : ℕ) where
-  pub at-states : i < 1 → imageByte a p i ≡ p .states
+  pub at-head : i < classesAt → imageByte a p i ≡ headByte (p .states) (p .classes) i
   unfolding imageByte
-  at-states h = rw (below i 1 .full h)
-
-  pub at-classes : 1 ≤ i → i < classesAt → imageByte a p i ≡ p .classes
-  unfolding imageByte
-  at-classes g h = rw (not-below i 1 g, below i classesAt .full h)
+  at-head h = rw (below i classesAt .full h) refl
 
   pub at-class : classesAt ≤ i → i < marksAt → imageByte a p i ≡ getD (p .class) (i - classesAt) 0
   unfolding imageByte
-  at-class g h = rw (not-below i 1 (omega arith), not-below i classesAt g, below i marksAt .full h)
+  at-class g h = rw (not-below i classesAt g, below i marksAt .full h)
 
   pub at-mark : marksAt ≤ i → i < marksAt + p .states → imageByte a p i ≡ markOf a (getD (p .order) (i - marksAt) 0)
   unfolding imageByte
-  at-mark g h = rw (not-below i 1 (omega arith), not-below i classesAt (omega arith), not-below i marksAt g, below i (marksAt + p .states) .full h)
+  at-mark g h = rw (not-below i classesAt (omega arith), not-below i marksAt g, below i (marksAt + p .states) .full h)
 
   pub at-gap : marksAt + p .states ≤ i → i < cellsAt → imageByte a p i ≡ 0
   unfolding imageByte
   at-gap g h =
-      rw (not-below i 1 (omega arith), not-below i classesAt (omega arith), not-below i marksAt (omega arith), not-below i (marksAt + p .states) g, below i cellsAt .full h)
+      rw (not-below i classesAt (omega arith), not-below i marksAt (omega arith), not-below i (marksAt + p .states) g, below i cellsAt .full h)
 
   module _ (f : p .states ≤ stateLimit) where
     past : cellsAt ≤ i → imageByte a p i ≡ cond (ltb i (cellsAt + p .states * p .classes)) (tableByte a (p .order) (p .into) (p .leader) (p .classes) i) 0
     unfolding imageByte
     past g =
         rw (
-          not-below i 1 (omega arith),
           not-below i classesAt (omega arith),
           not-below i marksAt (omega arith),
           not-below i (marksAt + p .states) (omega arith),
@@ -101,30 +97,26 @@ module _ {a : List ℕ} {p : Plan} (d : Planned a p) where
   image-rows = record { sound = d .sound; few = states-few; inside = λ q h g. d .smallest .inside q h }
 
   -- the parts, one after the other, are the image
-  pub image-parts : {m m1 m2 m3 m4 m5 : List ℕ} → roomBytes ≤ length m
-      → Stored (set (set m 0 (p .states)) 1 (p .classes)) m1 classesAt marksAt (λ i. getD (p .class) (i - classesAt) 0)
+  pub image-parts : {m m0 m1 m2 m3 m4 m5 : List ℕ} → Written classesAt (headByte (p .states) (p .classes)) m m0
+      → Stored m0 m1 classesAt marksAt (λ i. getD (p .class) (i - classesAt) 0)
       → Stored m1 m2 marksAt (marksAt + p .states) (λ i. markOf a (getD (p .order) (i - marksAt) 0))
       → Stored m2 m3 (marksAt + p .states) cellsAt (λ i. 0)
       → Stored m3 m4 cellsAt (cellsAt + p .states * p .classes) (tableByte a (p .order) (p .into) (p .leader) (p .classes))
       → Stored m4 m5 (cellsAt + p .states * p .classes) roomBytes (λ i. 0)
       → Written roomBytes (imageByte a p) m m5
-  image-parts {m} h s t u v w =
+  image-parts {m} r s t u v w =
       stored-written
       (stored-then (omega arith) (omega (arith, table-few)) (stored-then (omega arith) (omega arith) (stored-then (omega arith) (omega (arith, states-few))
-      (stored-then (omega arith) (omega arith) (stored-then (omega arith) (omega arith) head s (λ i k g. sym (at-class a p i g k))) t (λ i k g. sym (at-mark a p i g k)))
+      (stored-then (omega arith) (omega arith) (stored-then (omega arith) (omega arith)
+      (stored-then (omega arith) (omega arith) (stored-none m 0 (imageByte a p)) (written-stored r) (λ i k g. sym (at-head a p i k))) s (λ i k g. sym (at-class a p i g k))) t (λ i k g. sym (at-mark a p i g k)))
       u (λ i k g. sym (at-gap a p i g k))) v (λ i k g. sym (at-cell a p i states-few g k))) w (λ i k g. sym (at-rest a p i states-few g)))
-    where
-      head : Stored m (set (set m 0 (p .states)) 1 (p .classes)) 0 classesAt (imageByte a p)
-      head =
-          stored-more (omega arith) (omega arith) (sym (at-classes a p 1 (omega arith) (omega arith)))
-          (stored-more (omega arith) (omega arith) (sym (at-states a p 0 (omega arith))) (stored-none m 0 (imageByte a p)))
 
   module _ (m : List ℕ) (long : roomBytes ≤ length m) (b : (i : ℕ) → i < roomBytes → getD m i 0 ≡ imageByte a p i) where
     pub is-states : statesOf m ≡ p .states
-    is-states = b 0 (omega arith) ∙ at-states a p 0 (omega arith)
+    is-states = b 0 (omega arith) ∙ at-head a p 0 (omega arith)
 
     pub is-classes : classesOf m ≡ p .classes
-    is-classes = b 1 (omega arith) ∙ at-classes a p 1 (omega arith) (omega arith)
+    is-classes = b 1 (omega arith) ∙ at-head a p 1 (omega arith)
 
     pub is-class : (x : ℕ) → x < byteValues → classOf m x ≡ getD (p .class) x 0
     is-class x h = b (classesAt + x) (omega arith) ∙ at-class a p (classesAt + x) (omega arith) (omega arith) ∙ ap (λ (j : ℕ). getD (p .class) j 0) (omega arith)

@@ -9,6 +9,7 @@ use lib.Dec.{ltb}
 use lib.ListN.{getD}
 use Rattle.scope.specs.Limits.{classesAt, marksAt, cellsAt}
 use Rattle.scope.specs.Room.{markOf, cellOf}
+use Rattle.room.specs.Head.{headByte}
 use Rattle.plan.specs.declared.Plan.{Plan}
 
 -- the cell of the state q and the class c
@@ -21,9 +22,8 @@ tableByte a order into leader k i = tableCell a order into leader ((i - cellsAt)
 
 unfoldable pub imageByte : List ℕ → Plan → ℕ → ℕ
 imageByte a p i =
-    cond (ltb i 1) (p .states)
-    (cond (ltb i classesAt) (p .classes)
+    cond (ltb i classesAt) (headByte (p .states) (p .classes) i)
     (cond (ltb i marksAt) (getD (p .class) (i - classesAt) 0)
     (cond (ltb i (marksAt + p .states)) (markOf a (getD (p .order) (i - marksAt) 0))
     (cond (ltb i cellsAt) 0
-    (cond (ltb i (cellsAt + p .states * p .classes)) (tableByte a (p .order) (p .into) (p .leader) (p .classes) i) 0)))))
+    (cond (ltb i (cellsAt + p .states * p .classes)) (tableByte a (p .order) (p .into) (p .leader) (p .classes) i) 0))))

@@ -38,7 +38,8 @@ fn write_row(
     requires { ⌜ (k ≤ classLimit) × Below (now leader) 0 k (classesOf (now from)) × (at + k ≤ length (now to)) ⌝ }
     ensures { λ _. ⌜ Stored (now (to .entry)) (now (to .exit)) at (at + k) (λ i. getD (now (into .entry)) (cellOf (now (from .entry)) state (getD (now (leader .entry)) (i - at) 0)) 0) ⌝ }
 {
-    let row = state * from[1] as usize;
+    let wide = room::head(from).classes;
+    let row = state * wide;
     let mut c: usize = 0;
     while c < k {
         to[at + c] = into[from[Machine::CELLS_AT + (row + leader[c] as usize)] as usize];
@@ -81,8 +82,13 @@ pub fn write(from: &[u8], plan: Plan, to: &mut [u8])
     let into = plan.into;
     let class = plan.class;
     let leader = plan.leader;
-    to[0] = n as u8;
-    to[1] = k as u8;
+    room::write_head(
+        to,
+        Machine {
+            states: n,
+            classes: k,
+        },
+    );
     slices::write_classes(to, &class);
     write_marks(from, &order, n, to);
     slices::fill(to, Machine::MARKS_AT + n, Machine::CELLS_AT, 0);

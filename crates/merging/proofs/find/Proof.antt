@@ -4,6 +4,7 @@ use native.Mathlib.Omega.{arith}
 use borrow.Author.Needs.{needs}
 use borrow.Author.Count.{below-more}
 use lib.ListN.{getD}
+use Rattle.slices.proofs.Numbered.{found-here, found-none}
 use Rattle.plan.specs.Classed.{Alike}
 use Rattle.merging.proofs.find.Statement.{statement}
 use Rattle.merging.proofs.find.Tie as tie
@@ -24,7 +25,7 @@ are-alike-requires : tie.Need-are-alike-requires Inv-loop μ-loop
 are-alike-requires c κs = (c .before .before .before .before .pre .0, (c .before .before .before .before .pre .1 .1 (c .before .before .loop .c) (c .before .loop-test .taken) (omega arith), c .before .before .before .before .pre .1 .2))
 
 returns : tie.Need-returns Inv-loop μ-loop
-returns c = record { most = search needs; has = λ h. c .before .are-alike .ensures .yes (c .if1 .taken); none = c .before .before .before .before .loop .inv .1 }
+returns c = found-here (search needs) (c .before .are-alike .ensures .yes (c .if1 .taken)) (c .before .before .before .before .loop .inv .1)
 
 add-c : tie.Need-add-c Inv-loop μ-loop
 add-c c = search needs
@@ -36,7 +37,7 @@ loop-again : tie.Need-loop-again Inv-loop μ-loop
 loop-again c = (search needs, below-more _ _ (c .before .before .before .before .loop .inv .1) (λ g. c .before .are-alike .ensures .no (c .if1 .left) g))
 
 returns-2 : tie.Need-returns-2 Inv-loop μ-loop
-returns-2 c = record { most = search needs; has = λ h. absurd (omega arith); none = λ d h. c .before .loop .inv .1 d (omega arith) }
+returns-2 c = found-none (λ d h. c .before .loop .inv .1 d (omega arith))
 
 pub find-spec : {M : Type 1} → statement M
 find-spec = tie.close (tie.spec Inv-loop μ-loop loop-holds element-copy-out-are-alike are-alike-requires returns add-c loop-less loop-again returns-2)
