@@ -1,20 +1,24 @@
 -- The kinds of one room's bytes: its classes that hold a byte.
---   kind-column: the column of a byte's kind is its class
+--   kinded: kinds and their columns, for whoever goes over them in the place of the bytes
 --   distinct: no two kinds have one column
 use Prim.Native.Nat.{ℕ, _<_}
 use mathlib.Core.Path.{_≡_, sym, _∙_}
 use mathlib.Core.List.{List}
 use native.Mathlib.Omega.{arith}
 use lib.ListN.{getD}
-use Rattle.scope.specs.Limits.{byteValues}
 use Rattle.scope.specs.Room.{classOf}
 use Rattle.sides.specs.Kinds.{KindsOf, Column}
-use Rattle.smallest.specs.Classes.{Distinct}
+use Rattle.sides.proofs.ByKind.{kind-before}
+use Rattle.plan.proofs.Kinded.{Kinded}
+use Rattle.merging.specs.Merged.{Distinct}
 
 module _ {a kind least column : List ℕ} {kinds : ℕ} (k : KindsOf a a kind least kinds) (c : Column a least column kinds) where
   -- the column of a byte's kind is its class
-  pub kind-column : (x : ℕ) → x < byteValues → getD column (getD kind x 0) 0 ≡ classOf a x
-  kind-column x h = c .inside (getD kind x 0) (k .below x h) ∙ k .left x h
+  pub kinded : Kinded a kind least column kinds
+  kinded = record {
+    finer = record { inside = k .below; place = k .byte; own = k .own; before = kind-before k };
+    class = λ x h. c .inside (getD kind x 0) (k .below x h) ∙ k .left x h;
+  }
 
   -- kinds with one column have one least byte
   pub distinct : Distinct column kinds

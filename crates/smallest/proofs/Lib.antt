@@ -1,9 +1,3 @@
-pub mod Arrival
 pub mod ByKind
-pub mod Swept
-pub mod Numbering
-pub mod Classes
-pub mod Image
-pub mod Stays
-pub mod Table
 pub mod Ready
+pub mod Stays

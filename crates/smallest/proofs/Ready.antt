@@ -11,12 +11,14 @@ use Rattle.sides.specs.Kinds.{KindsOf, Column}
 use Rattle.sides.specs.Side.{side}
 use Rattle.parts.specs.Refined.{Refined}
 use Rattle.parts.proofs.Refined.{left-parts}
-use Rattle.smallest.specs.Numbering.{Ready, Numbered, Rows}
-use Rattle.smallest.specs.Classes.{Merged, Mapped}
-use Rattle.smallest.specs.Image.{Planned}
-use Rattle.smallest.proofs.Swept.{swept-few}
-use Rattle.smallest.proofs.Numbering.{smallest}
-use Rattle.smallest.proofs.Classes.{classed}
+use Rattle.plan.specs.Smallest.{Rows}
+use Rattle.plan.specs.Planned.{Planned}
+use Rattle.arrivals.specs.Swept.{Ready, Arrived}
+use Rattle.arrivals.proofs.Swept.{swept-few}
+use Rattle.arrivals.proofs.Smallest.{smallest}
+use Rattle.merging.specs.Merged.{Merged, Mapped}
+use Rattle.merging.proofs.Merged.{classed}
+use Rattle.smallest.proofs.ByKind.{kinded}
 
 module _ {a kind least column part parent born : List ℕ} {kinds rounds : ℕ} (s : Sound a) (k : KindsOf a a kind least kinds) (c : Column a least column kinds)
     (r : Refined (side a a (statesOf a)) part parent born rounds) where
@@ -29,12 +31,12 @@ module _ {a kind least column part parent born : List ℕ} {kinds rounds : ℕ} 
     columns = λ j h g. rw (c .inside j h) (s .classes (classesAt + getD least j 0) (omega (arith, k .byte j h)) (omega arith));
   }
 
-  module _ {order into : List ℕ} {n : ℕ} (z : Numbered a part column order into kinds n) where
+  module _ {order into : List ℕ} {n : ℕ} (z : Arrived a part column order into kinds n) where
     -- the numbers stand for states
     pub rows : Rows a order n
-    rows = record { sound = s; few = omega (arith, swept-few s (ready .parts) (z .swept), s .few-states); inside = λ q h g. z .swept .back q h .inside }
+    rows = record { sound = s; few = omega (arith, swept-few s (z .swept), s .few-states); inside = λ q h g. z .swept .back q h .inside }
 
     -- numbered states and merged classes are the plan
     pub planned : {sort leader class : List ℕ} {i : ℕ} → Merged a order into column sort leader n i kinds → Mapped a sort class
         → Planned a (record { states = n; order = order; into = into; classes = i; class = class; leader = leader })
-    planned m e = record { sound = s; smallest = smallest s (ready .parts) k c (z .swept) (z .numbers); classed = classed s k c m e }
+    planned m e = record { sound = s; smallest = smallest s (ready .parts) (kinded k c) (z .swept) (z .numbers); classed = classed s (kinded k c) m e }

@@ -1,5 +1,6 @@
 -- A room is canonical exactly if its plan changes nothing of it: the image, as a list, is canonical, so a canonical room has its bytes; and where the plan changes
 -- nothing, the image has the room's.
+--   same-part: a comparison with a part of a room
 --   stays-canonical, canonical-stays, stays-decides: the two directions, and the test
 use Prim.Native.Nat.{ℕ, _+_, _-_, _*_, _/_, _%_, _≤_, _<_}
 use mathlib.Core.Path.{_≡_, sym, _∙_}
@@ -7,7 +8,8 @@ use mathlib.Core.Bool.{Bool}
 use mathlib.Core.List.{List}
 use native.Mathlib.Nat.{mod-lt, div-add-mod', div-lt-iff-lt-mul}
 use native.Mathlib.Omega.{arith}
-use lib.ListN.{length, getD}
+use lib.ListN.{length, getD, take, drop}
+use lib.Seq.{getD-drop}
 use Rattle.scope.specs.Limits.{classesAt, cellsAt, roomBytes}
 use Rattle.scope.specs.Room.{statesOf, classesOf, machine, Sound, SameBytes}
 use Rattle.scope.specs.Canonical.{Canonical}
@@ -18,10 +20,21 @@ use Rattle.scope.proofs.Run.{sound-closed}
 use Rattle.scope.proofs.Agree.{agree-same}
 use Rattle.scope.proofs.Moved.{moved-agree, canonical-moved}
 use Rattle.scope.proofs.Unique.{unique}
-use Rattle.slices.specs.Parts.{Decides}
-use Rattle.smallest.specs.declared.Plan.{Plan}
-use Rattle.smallest.specs.Image.{Planned, imageByte, Stays}
-use Rattle.smallest.proofs.Image.{N, is-states, is-classes, is-class, is-mark, at-cell, some-class, states-few, table-few, image-sound, image-agree, image-canonical, image-equal}
+use Rattle.slices.specs.Parts.{Decides, Alike}
+use Rattle.slices.proofs.Laws.{part-all}
+use Rattle.plan.specs.declared.Plan.{Plan}
+use Rattle.plan.specs.Planned.{Planned}
+use Rattle.writing.specs.Image.{imageByte}
+use Rattle.smallest.specs.Stays.{Stays}
+use Rattle.writing.proofs.Image.{N, is-states, is-classes, is-class, is-mark, at-cell, some-class, states-few, table-few, image-sound, image-agree, image-canonical, image-equal}
+
+-- a comparison with a part that goes to the end
+pub same-part : {r : Bool} (b : List ℕ) (from n : ℕ) (s : List ℕ) → Decides r (Alike b (take (length s - from) (drop from s)) n)
+    → Decides r ((i : ℕ) → i < n → getD b i 0 ≡ getD s (from + i) 0)
+same-part b from n s d = record { yes = λ e i h. d .yes e i h ∙ at i; no = λ e f. d .no e (λ i h. f i h ∙ sym (at i)) }
+  where
+    at : (i : ℕ) → getD (take (length s - from) (drop from s)) i 0 ≡ getD s (from + i) 0
+    at i = rw (part-all from s) (getD-drop from s i 0)
 
 module _ {a : List ℕ} {p : Plan} (d : Planned a p) where
   -- the image, as a list

@@ -1,3 +1,1 @@
-pub mod Numbering
-pub mod Classes
-pub mod Image
+pub mod Stays

@@ -1,10 +1,8 @@
 // From any sound room the canonical room of the same strings. The states are refined into parts that no string tells apart, and those that are reached numbered on
 // first arrival; kinds of bytes that every state sends alike share a class; and what came out is written as a room. A room is canonical if nothing of it would change.
-mod merge;
-mod number;
 mod stay;
-mod write;
 
+use plan::Plan;
 use scope::Machine;
 use scope::Minimised;
 ghost use Prim.Native.Nat.{_≤_};
@@ -17,17 +15,7 @@ ghost use Rattle.scope.specs.Canonical.{Canonical};
 ghost use Rattle.scope.specs.Buffers.{TailKept};
 ghost use Rattle.scope.specs.Minimise.{Minimises};
 ghost use Rattle.slices.specs.Parts.{Decides};
-ghost use Rattle.smallest.specs.Image.{Planned};
-
-// The smallest machine of a room: for each of its states one of the room's, for each of the room's its number; the class of each byte, and for each class one of the room's.
-pub struct Plan {
-    pub states: usize,
-    pub order: [u8; Machine::STATES],
-    pub into: [u8; Machine::STATES],
-    pub classes: usize,
-    pub class: [u8; Machine::BYTES],
-    pub leader: [u8; Machine::BYTES],
-}
+ghost use Rattle.plan.specs.Planned.{Planned};
 
 // The smallest machine of a sound room.
 fn make_plan(from: &[u8]) -> Plan
@@ -52,14 +40,14 @@ fn make_plan(from: &[u8]) -> Plan
         &mut parent,
         &mut born,
     );
-    let states = number::arrivals(from, &part, &column, kinds);
+    let states = arrivals::arrivals(from, &part, &column, kinds);
     let order = states.order;
     let into = states.into;
     let n = states.count;
-    let classes = merge::merge(from, &order, &into, n, &column, kinds);
+    let classes = merging::merge(from, &order, &into, n, &column, kinds);
     let sort = classes.sort;
     let leader = classes.leader;
-    let class = merge::of_bytes(from, &sort);
+    let class = merging::of_bytes(from, &sort);
     Plan {
         states: n,
         order: order,
@@ -76,7 +64,7 @@ pub fn smallest(from: &[u8], to: &mut [u8])
     requires { ⌜ roomBytes ≤ length (now to) ⌝ }
     ensures { λ _. ⌜ Canonical (now (to .exit)) × Equal (machine (now (from .entry))) (machine (now (to .exit))) × TailKept roomBytes (now (to .entry)) (now (to .exit)) ⌝ }
 {
-    write::write(from, make_plan(from), to);
+    writing::write(from, make_plan(from), to);
 }
 
 // Whether a sound room is canonical.

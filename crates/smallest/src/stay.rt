@@ -1,59 +1,26 @@
 // Whether a plan changes nothing of its room: as many states and classes, each state its own number, each byte its own class. Then the cells and marks are the room's too.
-use crate::Plan;
+use plan::Plan;
 use scope::Machine;
-ghost use Prim.Native.Nat.{_≤_};
-ghost use lib.ListN.{length};
-ghost use Rattle.scope.specs.Limits.{byteValues, marksAt};
 ghost use Rattle.slices.specs.Parts.{Decides};
-ghost use Rattle.smallest.specs.Image.{Planned, SameOrder, SameClasses, Stays};
-
-// Whether each of the first n numbers stands for itself.
-pub fn is_same_order(order: &[u8], n: usize) -> bool
-    requires { ⌜ (n ≤ length (now order)) × (n ≤ byteValues) ⌝ }
-    ensures { λ r. ⌜ Decides r (SameOrder (now (order .entry)) n) ⌝ }
-{
-    let mut q: usize = 0;
-    while q < n {
-        if order[q] != q as u8 {
-            return false;
-        }
-        q += 1;
-    }
-    true
-}
-
-// Whether the classes of the bytes are the room's.
-fn are_same_classes(room: &[u8], class: &[u8; Machine::BYTES]) -> bool
-    requires { ⌜ marksAt ≤ length (now room) ⌝ }
-    ensures { λ r. ⌜ Decides r (SameClasses (now (room .entry)) (now (class .entry)) byteValues) ⌝ }
-{
-    let mut x: usize = 0;
-    while x < Machine::BYTES {
-        if class[x] != room[Machine::CLASSES_AT + x] {
-            return false;
-        }
-        x += 1;
-    }
-    true
-}
+ghost use Rattle.plan.specs.Planned.{Planned};
+ghost use Rattle.smallest.specs.Stays.{Stays};
 
 // Whether a plan changes nothing.
 pub fn stays(room: &[u8], plan: Plan) -> bool
     requires { ⌜ Planned (now room) plan ⌝ }
     ensures { λ r. ⌜ Decides r (Stays (now (room .entry)) plan) ⌝ }
 {
+    let machine = room::head(room);
     let n = plan.states;
     let k = plan.classes;
-    let order = &plan.order;
-    let class = plan.class;
-    if n != room[0] as usize {
+    if n != machine.states {
         return false;
     }
-    if k != room[1] as usize {
+    if k != machine.classes {
         return false;
     }
-    if !is_same_order(order, n) {
+    if !plan::is_same_order(&plan.order, n) {
         return false;
     }
-    are_same_classes(room, &class)
+    slices::same(&plan.class, &room[Machine::CLASSES_AT..], Machine::BYTES)
 }

@@ -1,0 +1,3 @@
+pub mod Smallest
+pub mod Classed
+pub mod Planned
