@@ -81,7 +81,7 @@ fn spell(
     ensures { λ _. ⌜ Holds (now (left .entry)) (now (right .entry)) (now (word .entry)) (now (word .exit)) long ⌝ }
 {
     let mut p: usize = 0;
-    let mut q = left[0] as usize;
+    let mut q = room::head(left).states;
     let mut at: usize = 0;
     'walk: loop {
         let mut i: usize = 0;
@@ -112,7 +112,8 @@ fn are_twins(left: &[u8], right: &[u8]) -> bool
     requires { ⌜ Sound (now left) × Sound (now right) ⌝ }
     ensures { λ r. ⌜ Decides r (Twins (now (left .entry)) (now (right .entry))) ⌝ }
 {
-    let cells = left[0] as usize * left[1] as usize;
+    let machine = room::head(left);
+    let cells = machine.states * machine.classes;
     slices::same(left, right, Machine::CELLS_AT + cells)
 }
 
@@ -121,24 +122,9 @@ fn rounds_alone(room: &[u8]) -> usize
     requires { ⌜ Sound (now room) ⌝ }
     ensures { λ r. ⌜ Rounds (machine (now (room .entry))) r ⌝ }
 {
-    let kinds = sides::kinds(room, room, room[1] as usize);
-    let least = kinds.least;
-    let count = kinds.count;
-    let columns = sides::columns(room, &least, count);
+    let mut column = [0u8; Machine::BYTES];
     let mut part = [0u16; parts::STATES];
-    let mut parent = [0u16; parts::STATES];
-    let mut born = [0u16; parts::STATES];
-    parts::refine(
-        room,
-        room,
-        &columns,
-        &columns,
-        count,
-        room[0] as usize,
-        &mut part,
-        &mut parent,
-        &mut born,
-    )
+    parts::refine_alone(room, &mut column, &mut part).rounds
 }
 
 // The answer for two sound rooms.
@@ -150,12 +136,15 @@ fn answer(left: &[u8], right: &[u8], word: &mut [u8]) -> Compared
     if are_twins(left, right) {
         return Compared::Same(rounds_alone(left));
     }
-    let s = left[0] as usize;
+    let s = room::head(left).states;
+    let n = s + room::head(right).states;
     let kinds = sides::kinds(left, right, Machine::BYTES);
     let least = kinds.least;
     let count = kinds.count;
-    let left_columns = sides::columns(left, &least, count);
-    let right_columns = sides::columns(right, &least, count);
+    let mut left_columns = [0u8; Machine::BYTES];
+    let mut right_columns = [0u8; Machine::BYTES];
+    sides::columns(left, &least, count, &mut left_columns);
+    sides::columns(right, &least, count, &mut right_columns);
     let mut part = [0u16; parts::STATES];
     let mut parent = [0u16; parts::STATES];
     let mut born = [0u16; parts::STATES];
@@ -165,7 +154,7 @@ fn answer(left: &[u8], right: &[u8], word: &mut [u8]) -> Compared
         &left_columns,
         &right_columns,
         count,
-        s + right[0] as usize,
+        n,
         &mut part,
         &mut parent,
         &mut born,

@@ -4,6 +4,8 @@
 --   climbs, climbed-together: two states climb to one part exactly if they are together after that round
 --   both-few: two rooms: there are at most s + t - 2 rounds
 --   left-parts: one room: its parts are the states that no string tells apart
+--   left-rounds: and its rounds are those of its machine
+--   left-alone: so it is refined alone
 use Prim.Native.Nat.{ℕ, _+_, _≤_, _<_}
 use mathlib.Core.Path.{_≡_, refl, sym, _∙_}
 use mathlib.Core.Logic.{_↔_}
@@ -12,13 +14,17 @@ use native.Mathlib.Omega.{arith}
 use lib.ListN.{getD}
 use Rattle.scope.specs.Machine.{Machine, Same}
 use Rattle.scope.specs.Room.{statesOf, machine, Sound}
-use Rattle.scope.specs.Rounds.{Together}
+use Rattle.scope.specs.Rounds.{Together, Rounds}
+use Rattle.scope.proofs.Tests.{below}
+use Rattle.scope.proofs.Agree.{agree-rounds}
 use Rattle.scope.proofs.Rounds.{together-in, together-flip, together-chain, rests-same}
 use Rattle.scope.proofs.Run.{sound-closed}
 use Rattle.scope.proofs.Aside.{left-run, rounds-two}
 use Rattle.sides.specs.Side.{both, side}
+use Rattle.sides.specs.Kinds.{Kinds, Column}
+use Rattle.sides.proofs.Rooms.{next-left}
 use Rattle.parts.specs.Parts.{Named, Alike}
-use Rattle.parts.specs.Refined.{Refined, PartsOf, Climbs, Climbed}
+use Rattle.parts.specs.Refined.{Refined, PartsOf, RefinedAlone, Climbs, Climbed}
 use Rattle.parts.proofs.Names.{first-one, named-same, named-told, named-name, named-below}
 use Rattle.parts.proofs.Turns.{together-itself, part-same, part-told}
 
@@ -88,3 +94,14 @@ module _ (a b part parent born : List ℕ) (rounds : ℕ) (s : Sound a) (t : Sou
             like = λ w g. sym (alone (getD part q 0) (omega (arith, e .low)) w g) ∙ e .like w g ∙ alone q h w g;
             least = λ p l z. e .least p l (λ w g. alone p (omega (arith, e .low)) w g ∙ z w g ∙ sym (alone q h w g));
           }
+
+-- the states of a room move beside another as they do alone
+pub left-rounds : (a b : List ℕ) {part parent born : List ℕ} {r : ℕ} → Refined (side a b (statesOf a)) part parent born r → Rounds (machine a) r
+left-rounds a b {r = r} d = agree-rounds (side a b (statesOf a)) (machine a) (d .closed)
+    (record { states = refl; next = λ q x h k. next-left a b q x h; marks = λ q h. rw (below q (statesOf a) .full h) refl }) r (d .last)
+
+-- kinds, columns and parts of one room beside itself
+pub left-alone : {a least column part parent born : List ℕ} {kinds rounds : ℕ} → Sound a → Kinds a a least kinds → Column a least column kinds
+    → Refined (side a a (statesOf a)) part parent born rounds → RefinedAlone a column part kinds rounds
+left-alone {a} {least} {column} {part} {parent} {born} {kinds} {rounds} s k c d =
+    record { least = least; bytes = k; columns = c; parts = left-parts a a part parent born rounds s s d; last = left-rounds a a d }

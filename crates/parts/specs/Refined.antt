@@ -4,6 +4,7 @@
 --   Tree M r part parent born: so for each part after r rounds
 --   Refined M part parent born rounds: the parts, their tree and the number of rounds when nothing splits
 --   PartsOf M part: the parts of M are the states that no string tells apart
+--   RefinedAlone a column part kinds rounds: the states of one room when nothing splits: the columns of the kinds of its bytes, its parts, and its rounds
 --   Climbs part parent born q r: the tree is that of some machine, whose rounds go to r, and q one of its states
 --   Climbed part parent born q r x: x begins the part of q after r rounds, whatever machine the tree is of
 use Prim.Native.Nat.{ℕ, _-_, _≤_, _<_}
@@ -11,7 +12,9 @@ use mathlib.Core.Path.{_≡_}
 use mathlib.Core.List.{List}
 use lib.ListN.{getD}
 use Rattle.scope.specs.Machine.{Machine, Same, Closed}
+use Rattle.scope.specs.Room.{machine}
 use Rattle.scope.specs.Rounds.{Together, Rounds}
+use Rattle.sides.specs.Kinds.{Kinds, Column}
 use Rattle.parts.specs.Parts.{First, Named}
 
 pub record Parent (M : Machine) (part parent born : List ℕ) (x : ℕ) : Type 0 where
@@ -40,6 +43,13 @@ pub record PartsOf (M : Machine) (part : List ℕ) : Type 0 where
   pub name : (q : ℕ) → q < M .states → getD part (getD part q 0) 0 ≡ getD part q 0
   pub same : (p q : ℕ) → p < M .states → q < M .states → getD part p 0 ≡ getD part q 0 → Same M p M q
   pub told : (p q : ℕ) → p < M .states → q < M .states → Same M p M q → getD part p 0 ≡ getD part q 0
+
+pub record RefinedAlone (a column part : List ℕ) (kinds rounds : ℕ) : Type 0 where
+  pub least : List ℕ
+  pub bytes : Kinds a a least kinds
+  pub columns : Column a least column kinds
+  pub parts : PartsOf (machine a) part
+  pub last : Rounds (machine a) rounds
 
 pub record Climbs (part parent born : List ℕ) (q r : ℕ) : Type 0 where
   pub machine : Machine

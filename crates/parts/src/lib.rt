@@ -11,7 +11,7 @@ ghost use mathlib.Core.Path.{_≡_};
 ghost use mathlib.Core.Bool.{true, false};
 ghost use Prim.Native.Nat.{ℕ, _+_, _*_, _%_, _^_, _≤_, _<_};
 ghost use lib.ListN.{length, getD, set, replicate};
-ghost use Rattle.scope.specs.Limits.{stateLimit};
+ghost use Rattle.scope.specs.Limits.{byteValues, stateLimit};
 ghost use Rattle.scope.specs.Room.{statesOf, Sound};
 ghost use Rattle.scope.specs.Rounds.{Together};
 ghost use Rattle.scope.specs.Buffers.{Written};
@@ -22,7 +22,7 @@ ghost use Rattle.parts.specs.Parts.{First, Named, Renamed, Alike, Agree}
 ghost use Rattle.parts.specs.Rows.{rowBytes, Rows};
 ghost use Rattle.parts.specs.Signs.{signs, Gap, Sources, Noted, Steady, Stayed};
 ghost use Rattle.parts.specs.Round.{Chain, Opening, Joining, Opened, Births};
-ghost use Rattle.parts.specs.Refined.{Refined, Climbs, Climbed};
+ghost use Rattle.parts.specs.Refined.{Refined, RefinedAlone, Climbs, Climbed};
 
 // The most states that two rooms have.
 pub const STATES: usize = Machine::STATES + Machine::STATES;
@@ -416,6 +416,46 @@ pub fn refine(
         r += 1;
     }
     r
+}
+
+// How many kinds the bytes of one room are of, and how many rounds its states take.
+pub struct Alone {
+    pub kinds: usize,
+    pub rounds: usize,
+}
+
+// Refines the states of one room until nothing splits. In `column` and `part`, which are 0 before, are then the class of each kind of bytes and the part of each state.
+pub fn refine_alone(
+    room: &[u8],
+    column: &mut [u8; Machine::BYTES],
+    part: &mut [u16; STATES],
+) -> Alone
+    requires { ⌜ Sound (now room) ⌝ }
+    requires { ⌜ (now column ≡ replicate byteValues 0) × (now part ≡ replicate (stateLimit + stateLimit) 0) ⌝ }
+    ensures { λ r. ⌜ RefinedAlone (now (room .entry)) (now (column .exit)) (now (part .exit)) (r .kinds) (r .rounds) ⌝ }
+{
+    let machine = room::head(room);
+    let bytes = sides::kinds(room, room, machine.classes);
+    let least = bytes.least;
+    let kinds = bytes.count;
+    sides::columns(room, &least, kinds, column);
+    let mut parent = [0u16; STATES];
+    let mut born = [0u16; STATES];
+    let rounds = refine(
+        room,
+        room,
+        column,
+        column,
+        kinds,
+        machine.states,
+        part,
+        &mut parent,
+        &mut born,
+    );
+    Alone {
+        kinds: kinds,
+        rounds: rounds,
+    }
 }
 
 // The part of q after r rounds.

@@ -4,7 +4,7 @@
 use scope::Machine;
 ghost use mathlib.Core.Path.{_≡_};
 ghost use Prim.Native.Nat.{_+_, _≤_, _<_};
-ghost use lib.ListN.{getD};
+ghost use lib.ListN.{getD, replicate};
 ghost use Rattle.scope.specs.Limits.{byteValues};
 ghost use Rattle.scope.specs.Room.{statesOf, Below, Sound};
 ghost use Rattle.slices.specs.Parts.{Decides};
@@ -141,17 +141,21 @@ pub fn kinds(a: &[u8], b: &[u8], most: usize) -> ByteKinds
     }
 }
 
-// The column of each kind: the class of its least byte.
-pub fn columns(room: &[u8], least: &[u8; Machine::BYTES], count: usize) -> [u8; Machine::BYTES]
+// Writes the column of each kind, where all are 0: the class of its least byte.
+pub fn columns(
+    room: &[u8],
+    least: &[u8; Machine::BYTES],
+    count: usize,
+    column: &mut [u8; Machine::BYTES],
+)
     requires { ⌜ Sound (now room) ⌝ }
     requires { ⌜ (count ≤ byteValues) × Below (now least) 0 count byteValues ⌝ }
-    ensures { λ r. ⌜ Column (now (room .entry)) (now (least .entry)) r count ⌝ }
+    requires { ⌜ now column ≡ replicate byteValues 0 ⌝ }
+    ensures { λ _. ⌜ Column (now (room .entry)) (now (least .entry)) (now (column .exit)) count ⌝ }
 {
-    let mut column = [0u8; Machine::BYTES];
     let mut j: usize = 0;
     while j < count {
         column[j] = room[Machine::CLASSES_AT + least[j] as usize];
         j += 1;
     }
-    column
 }

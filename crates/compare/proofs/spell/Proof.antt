@@ -19,14 +19,8 @@ Inv-walk left right part parent born least long word₀ p₀ q₀ at₀ word p q
 abbrev μ-walk : tie.MeasureT-walk
 μ-walk left right part parent born least long word₀ p₀ q₀ at₀ word p q at = long - at
 
-shared-slice-read-q : tie.Need-shared-slice-read-q Inv-loop μ-loop Inv-walk μ-walk
-shared-slice-read-q c = search needs
-
-cast-q : tie.Need-cast-q Inv-loop μ-loop Inv-walk μ-walk
-cast-q c = search needs
-
 walk-holds : tie.Need-walk-holds Inv-loop μ-loop Inv-walk μ-walk
-walk-holds c = writing-none (c .before .before .before .before .pre .0) _
+walk-holds c = rw (c .head .ensures .0) (writing-none (c .before .before .before .before .pre .0) _)
 
 loop-holds : tie.Need-loop-holds Inv-loop μ-loop Inv-walk μ-walk
 loop-holds c = below-none _
@@ -98,8 +92,7 @@ spell-spec =
     μ-loop
     Inv-walk
     μ-walk
-    shared-slice-read-q
-    cast-q
+    (λ c κs. search needs)
     walk-holds
     loop-holds
     element-copy-out-x
