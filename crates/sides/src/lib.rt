@@ -12,6 +12,9 @@ ghost use Rattle.slices.specs.Numbered.{Found};
 ghost use Rattle.sides.specs.Side.{both, cellIn, markIn};
 ghost use Rattle.sides.specs.Kinds.{pairOf, stretch, Level, Kinds, Most, Column, Used};
 
+// The most states that two rooms have.
+pub const STATES: usize = Machine::STATES + Machine::STATES;
+
 // The state after q on the byte x.
 pub fn step(a: &[u8], b: &[u8], q: usize, x: u8) -> usize
     requires { ⌜ Sound (now a) × Sound (now b) ⌝ }
