@@ -19,9 +19,10 @@ use lib.Bits.{bitOr, bitXor, or-step, xor-step, or-shr, xor-shr}
 use lib.ListN.{length, getD, set, length-set, replicate, length-replicate}
 use lib.Seq.{getD-set-same, getD-set-other}
 use Rattle.scope.specs.Limits.{byteValues}
+use Rattle.scope.specs.Buffers.{Written}
 use Rattle.scope.proofs.Bits.{digit}
 use Rattle.scope.proofs.Tests.{split}
-use Rattle.sets.proofs.Words.{set-more}
+use Rattle.slices.proofs.Laws.{written-start, written-more}
 use Rattle.sets.specs.Layout.{byteSet, bitAt}
 use Rattle.classes.specs.Group.{Like}
 use Rattle.classes.specs.Runs.{Joined, Noted, In, RunsOf}
@@ -78,21 +79,19 @@ next-bit m p b small = elim (split (b % 8) 7) [
 ]
 
 pub record Noting (m : List ℕ) (p : ℕ) (old new : List ℕ) (g : ℕ) : Type 0 where
-  pub size : length new ≡ byteSet
   pub bytes : (i : ℕ) → i < g → getD m (p * byteSet + i) 0 < 256
-  pub noted : (i : ℕ) → i < g → getD new i 0 ≡ edges (getD old i 0) (getD m (p * byteSet + i) 0) (getD m (p * byteSet + i + 1) 0)
+  pub noted : Written g (λ i. edges (getD old i 0) (getD m (p * byteSet + i) 0) (getD m (p * byteSet + i + 1) 0)) (replicate byteSet 0) new
 
 -- no byte of the set
 pub noting-none : (m : List ℕ) (p : ℕ) (old : List ℕ) → Noting m p old (replicate byteSet 0) 0
-noting-none m p old = record { size = length-replicate {A = ℕ} byteSet 0; bytes = λ i h. absurd (omega arith); noted = λ i h. absurd (omega arith) }
+noting-none m p old = record { bytes = λ i h. absurd (omega arith); noted = written-start _ _ }
 
 -- one byte more
 pub noting-more : {m : List ℕ} {p : ℕ} {old new : List ℕ} {g : ℕ} → Noting m p old new g → g < byteSet → getD m (p * byteSet + g) 0 < 256
     → Noting m p old (set new g (edges (getD old g 0) (getD m (p * byteSet + g) 0) (getD m (p * byteSet + g + 1) 0))) (g + 1)
-noting-more {m} {p} {old} {new} {g} x h small = record {
-  size = length-set new g _ ∙ x .size;
+noting-more {m} {p} {g = g} x h small = record {
   bytes = below-more (λ (i : ℕ). getD m (p * byteSet + i) 0 < 256) g (x .bytes) small;
-  noted = set-more {f = λ i. edges (getD old i 0) (getD m (p * byteSet + i) 0) (getD m (p * byteSet + i + 1) 0)} new g (omega (arith, x .size)) (x .noted);
+  noted = written-more _ g _ _ _ h refl (x .noted);
 }
 
 -- all of them
@@ -101,7 +100,7 @@ noting-all {m} {p} {old} {new} {g} h x b l z =
     let flat : 0 * byteSet + b / 8 ≡ b / 8 = omega arith in
     let i : b / 8 < g = omega arith in
     let (u, v) = edges-none (getD old (b / 8) 0) (getD m (p * byteSet + b / 8) 0) (getD m (p * byteSet + b / 8) 0 / 2 + getD m (p * byteSet + b / 8 + 1) 0 % 2 * 128) (b % 8)
-    (rw (← x .noted (b / 8) i) (rw flat at z)) in
+    (rw (← x .noted .inside (b / 8) i) (rw flat at z)) in
     (rw flat u, v ∙ next-bit m p b (x .bytes (b / 8) i))
 
 -- ---- all positions
