@@ -1,7 +1,7 @@
-// From the sets of positions of an expression to a sound room image whose states are the reached sets. `classes` gives the classes of byte values and their masks;
-// then one file a pass: `reach` finds the reached sets row by row, `image` writes the room around them.
+// From the sets of positions of an expression to a sound room image whose states are the reached sets. `classes` gives the classes of byte values and their masks,
+// `reach` finds the reached sets row by row, and `image` writes the room around them.
 ghost use mathlib.Core.Path.{_≡_};
-ghost use Prim.Native.Nat.{_+_, _*_, _≤_};
+ghost use Prim.Native.Nat.{_≤_};
 ghost use lib.Bits.{bitOr};
 ghost use Rattle.scope.specs.Bits.{given};
 ghost use Rattle.scope.specs.Buffers.{Scratch};
@@ -13,7 +13,6 @@ use sets::Set;
 use sets::layout::IMAGE_AT;
 
 mod image;
-mod reach;
 
 // What building answers.
 pub enum Built {
