@@ -23,8 +23,8 @@ use Rattle.slices.specs.Numbered.{Came, Numbered}
 use Rattle.slices.proofs.Numbered.{numbered-none, numbered-old, numbered-new, numbered-arrival, numbered-one}
 use Rattle.sets.specs.Layout.{bitAt}
 use Rattle.sets.proofs.Held.{bit-small}
-use Rattle.classes.specs.Group.{Like, By, Key, Classes, Grouped, GroupAnswer, Below}
-use Rattle.classes.specs.Runs.{Listed}
+use Rattle.classes.specs.Group.{By, Key, Classes, Grouped, GroupAnswer, Below}
+use Rattle.runs.specs.Runs.{Listed, Like}
 use Rattle.classes.specs.declared.Counted.{Counted}
 use Rattle.classes.specs.declared.Counted.the-variants.{Few, Many}
 use Rattle.classes.proofs.Count.{met-used, numbered-met, over-one}

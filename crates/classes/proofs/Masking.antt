@@ -16,8 +16,8 @@ use Rattle.scope.proofs.Arrival.{met-above}
 use Rattle.sets.specs.Value.{setAt, Put}
 use Rattle.sets.proofs.Words.{put-other}
 use Rattle.sets.proofs.Held.{held-same}
-use Rattle.classes.specs.Group.{Like, Grouped}
-use Rattle.classes.specs.Runs.{RunsOf}
+use Rattle.classes.specs.Group.{Grouped}
+use Rattle.runs.specs.Runs.{RunsOf, Like}
 use Rattle.classes.specs.Masks.{maskOf, Masked}
 use Rattle.classes.proofs.Count.{met-next, met-used}
 use Rattle.classes.proofs.Classes.{class-below}

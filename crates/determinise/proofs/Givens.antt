@@ -30,7 +30,8 @@ use Rattle.scope.proofs.Buffers.{all-kept}
 use Rattle.slices.proofs.Laws.{part-all}
 use Rattle.sets.specs.Layout.{held, imageAt}
 use Rattle.sets.proofs.Held.{bits-same}
-use Rattle.classes.specs.Group.{Like, Grouped, GroupAnswer}
+use Rattle.runs.specs.Runs.{Like}
+use Rattle.classes.specs.Group.{Grouped, GroupAnswer}
 use Rattle.classes.specs.Masks.{maskOf, Masked}
 use Rattle.classes.specs.declared.Counted.{Counted}
 use Rattle.classes.specs.declared.Counted.the-variants.{Few, Many}

@@ -1,4 +1,4 @@
-// From the sets of positions of an expression to a sound room image whose states are the reached sets. `classes` gives the classes of byte values and their masks,
+// From the sets of positions of an expression to a sound room image whose states are the reached sets. `runs` finds the runs of byte values, `classes` gives their classes and masks,
 // `reach` finds the reached sets row by row, and `image` writes the room around them.
 ghost use mathlib.Core.Path.{_≡_};
 ghost use Prim.Native.Nat.{_≤_};
@@ -33,7 +33,7 @@ pub fn build(bytes: &mut [u8], words: &mut [u64], count: usize, last: Set, null:
     requires { ⌜ (count ≤ positionLimit) × Scratch (now bytes) (now words) ⌝ }
     ensures { λ r. ⌜ Builds (now (bytes .entry)) (now (words .entry)) count (value (last .words)) null (now (bytes .exit)) (now (words .exit)) r ⌝ }
 {
-    let found = classes::runs::find(bytes, count);
+    let found = runs::find(bytes, count);
     let ends = found.last;
     let runs = found.count;
     let groups = classes::group::group(bytes, count, &ends, runs);

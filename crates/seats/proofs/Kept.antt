@@ -4,16 +4,16 @@
 --   put-kept: storing a set
 --   kept-tail: all but the first elements is kept
 use Prim.Native.Nat.{ℕ, _+_, _*_, _≤_, _<_}
-use mathlib.Core.Path.{_≡_, refl, sym, _∙_}
+use mathlib.Core.Path.{_≡_, refl, _∙_}
 use mathlib.Core.List.{List}
 use mathlib.Core.Logic.{inl, inr, ⊎-elim}
 use native.Mathlib.Omega.{arith}
-use lib.ListN.{getD, set, take, drop, length-set}
-use lib.Seq.{getD-set-other, getD-take, getD-drop}
+use lib.ListN.{set, length-set}
+use lib.Seq.{getD-set-other}
 use Rattle.scope.specs.Buffers.{TailKept}
 use Rattle.scope.specs.Limits.{setWords}
 use Rattle.sets.specs.Value.{setAt, Put}
-use Rattle.sets.proofs.Words.{value-load}
+use Rattle.sets.proofs.Words.{set-kept}
 use Rattle.seats.specs.Layout.{Kept}
 
 -- nothing is changed
@@ -37,13 +37,7 @@ kept-set m at v from to l h = record {
 
 -- a set that stands before the part
 pub kept-sets : {a b : List ℕ} {from to : ℕ} → Kept a b from to → (i : ℕ) → i * setWords + setWords ≤ from → setAt b i ≡ setAt a i
-kept-sets {a} {b} k i h = sym (value-load b part i (λ x l. at x l ∙ sym (k .outside (i * setWords + x) (inl (omega arith))))) ∙ value-load a part i at
-  where
-    part : List ℕ
-    part = take setWords (drop (i * setWords) a)
-
-    at : (x : ℕ) → x < setWords → getD part x 0 ≡ getD a (i * setWords + x) 0
-    at x l = getD-take setWords (drop (i * setWords) a) x 0 l ∙ getD-drop (i * setWords) a x 0
+kept-sets {a} {b} k i h = set-kept a b i (λ x l. k .outside (i * setWords + x) (inl (omega arith)))
 
 -- a set is stored
 pub put-kept : {a b : List ℕ} {i s : ℕ} → Put a b i s → Kept a b (i * setWords) (i * setWords + setWords)

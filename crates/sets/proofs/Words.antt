@@ -2,7 +2,7 @@
 --   value-or, value-and: the union and what is common
 --   value-none, value-load, value-equal, value-other: the empty set, a set of a buffer, and when two sets are the same
 --   has-at, one-at: the bit p stands in the word p / 64
---   put, put-other: a set stored in a buffer, and the others there
+--   put, set-kept, put-other: a set stored in a buffer; a set whose words stay; the others there
 use Prim.Native.Nat.{ℕ, zero, suc, _+_, _-_, _*_, _/_, _%_, _^_, _≤_, _<_}
 use mathlib.Core.Path.{_≡_, refl, sym, ap, ap₂, _∙_}
 use mathlib.Core.List.{List}
@@ -161,9 +161,13 @@ put m m′ s i x z = let y = rw z at x in
       outside = y .outside;
     }
 
+-- a set whose words stay
+pub set-kept : (m m′ : List ℕ) (i : ℕ) → ((x : ℕ) → x < setWords → getD m′ (i * setWords + x) 0 ≡ getD m (i * setWords + x) 0) → setAt m′ i ≡ setAt m i
+set-kept m m′ i e = value-same setWords m′ m (i * setWords) (i * setWords) e
+
 -- the other sets stay
 pub put-other : {m m′ : List ℕ} {i s : ℕ} → Put m m′ i s → (j : ℕ) → (j ≡ i → ⊥) → setAt m′ j ≡ setAt m j
-put-other {m} {m′} {i} p j ne = value-same setWords m′ m (j * setWords) (j * setWords) (λ x h. p .outside (j * setWords + x) (apart x h (split j i)))
+put-other {m} {m′} {i} p j ne = set-kept m m′ j (λ x h. p .outside (j * setWords + x) (apart x h (split j i)))
   where
     apart : (x : ℕ) → x < setWords → (j < i) ⊎ (i ≤ j) → (j * setWords + x < i * setWords) ⊎ (i * setWords + setWords ≤ j * setWords + x)
     apart x h (inl k) = inl (omega arith)

@@ -5,9 +5,9 @@ use native.Mathlib.Omega.{arith}
 use borrow.Author.Needs.{needs}
 use lib.ListN.{replicate}
 use Rattle.sets.specs.Layout.{byteSet}
-use Rattle.classes.proofs.Ends.{Quiet, quiet-none, quiet-more, quiet-runs}
-use Rattle.classes.proofs.runs.find.Statement.{statement}
-use Rattle.classes.proofs.runs.find.Tie as tie
+use Rattle.runs.proofs.Ends.{Quiet, quiet-none, quiet-more, quiet-runs}
+use Rattle.runs.proofs.find.Statement.{statement}
+use Rattle.runs.proofs.find.Tie as tie
 
 abbrev Inv-loop : tie.InvT-loop
 Inv-loop bytes count ends₀ p₀ ends p = (p ≤ count) × Quiet bytes p ends

@@ -4,9 +4,9 @@ use mathlib.Core.Logic.{⊎-elim}
 use native.Mathlib.Omega.{arith}
 use borrow.Author.Needs.{needs}
 use Rattle.scope.specs.Limits.{byteValues}
-use Rattle.classes.proofs.Ends.{Listing, listing-none, listing-pass, listing-eight, listing-more, listing-all}
-use Rattle.classes.proofs.runs.list.Statement.{statement}
-use Rattle.classes.proofs.runs.list.Tie as tie
+use Rattle.runs.proofs.Ends.{Listing, listing-none, listing-pass, listing-eight, listing-more, listing-all}
+use Rattle.runs.proofs.list.Statement.{statement}
+use Rattle.runs.proofs.list.Tie as tie
 
 abbrev Inv-loop : tie.InvT-loop
 Inv-loop ends last₀ n₀ b₀ last n b = (b ≤ byteValues) × Listing ends last n b

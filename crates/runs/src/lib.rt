@@ -1,12 +1,11 @@
 // Runs of byte values: stretches that every position holds wholly or not at all. Neighbouring byte values that no position tells apart are split, and given
 // their masks, once.
+ghost use mathlib.Core.Path.{_≡_};
 ghost use Prim.Native.Nat.{_*_, _<_, _≤_, _+_};
 ghost use lib.ListN.{length};
-ghost use Rattle.scope.specs.Limits.{positionLimit};
-ghost use Rattle.sets.specs.Layout.{byteSet};
-ghost use Rattle.classes.specs.Group.{Like};
-ghost use Rattle.classes.specs.Runs.{Noted, Joined, RunsOf};
-use crate::group;
+ghost use Rattle.scope.specs.Limits.{byteValues, positionLimit};
+ghost use Rattle.sets.specs.Layout.{byteSet, bitAt};
+ghost use Rattle.runs.specs.Runs.{Noted, Joined, RunsOf, Like};
 use scope::Machine;
 use sets::layout::BYTE_SET;
 
@@ -16,6 +15,15 @@ const LAST_BYTE: usize = Machine::BYTES - 1;
 pub struct Runs {
     pub last: [u8; Machine::BYTES],
     pub count: usize,
+}
+
+// 1 if the position p + 1 holds the byte b, else 0.
+pub fn bit(bytes: &[u8], p: usize, b: usize) -> usize
+    requires { ⌜ (b < byteValues) × (p * byteSet + byteSet ≤ length (now bytes)) ⌝ }
+    ensures { λ r. ⌜ (r ≡ bitAt (now (bytes .entry)) p b) × (r < 2) ⌝ }
+{
+    let x = bytes[p * BYTE_SET + b / 8] as usize;
+    (x >> (b % 8)) % 2
 }
 
 // The ends so far, and b besides where the position p + 1 holds one of b and b + 1 and not the other. What it says of 255, after which the byte set is over, no
@@ -46,7 +54,7 @@ fn list(ends: [u8; BYTE_SET]) -> Runs
         if ends[b / 8] == 0 {
             b += 8 - b % 8;
         } else {
-            if group::bit(&ends, 0, b) == 1 {
+            if bit(&ends, 0, b) == 1 {
                 last[n] = b as u8;
                 n += 1;
             }

@@ -24,8 +24,7 @@ use Rattle.scope.proofs.Bits.{digit}
 use Rattle.scope.proofs.Tests.{split}
 use Rattle.slices.proofs.Laws.{written-start, written-more}
 use Rattle.sets.specs.Layout.{byteSet, bitAt}
-use Rattle.classes.specs.Group.{Like}
-use Rattle.classes.specs.Runs.{Joined, Noted, In, RunsOf}
+use Rattle.runs.specs.Runs.{Joined, Noted, In, RunsOf, Like}
 
 -- ---- one position
 

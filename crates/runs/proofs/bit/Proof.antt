@@ -3,8 +3,8 @@ use native.Mathlib.Omega.{arith}
 use borrow.Author.Needs.{needs}
 use Prim.Native.Nat.{_+_, _*_, _/_}
 use Rattle.sets.specs.Layout.{byteSet}
-use Rattle.classes.proofs.group.bit.Statement.{statement}
-use Rattle.classes.proofs.group.bit.Tie as tie
+use Rattle.runs.proofs.bit.Statement.{statement}
+use Rattle.runs.proofs.bit.Tie as tie
 
 cast-x : tie.Need-cast-x
 cast-x c = omega (arith, c .shared-slice-known .given (c .before .args .p * byteSet + c .before .args .b / 8))

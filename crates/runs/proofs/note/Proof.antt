@@ -3,9 +3,9 @@ use Prim.Native.Nat.{_≤_, _-_, _+_, _*_}
 use native.Mathlib.Omega.{arith}
 use borrow.Author.Needs.{needs}
 use Rattle.sets.specs.Layout.{byteSet}
-use Rattle.classes.proofs.Ends.{Noting, noting-none, noting-more, noting-all}
-use Rattle.classes.proofs.runs.note.Statement.{statement}
-use Rattle.classes.proofs.runs.note.Tie as tie
+use Rattle.runs.proofs.Ends.{Noting, noting-none, noting-more, noting-all}
+use Rattle.runs.proofs.note.Statement.{statement}
+use Rattle.runs.proofs.note.Tie as tie
 
 abbrev Inv-loop : tie.InvT-loop
 Inv-loop bytes p ends noted₀ g₀ noted g = (g ≤ byteSet) × Noting bytes p ends noted g
