@@ -1,26 +1,23 @@
 -- Numbers in use, and one thing too many.
---   met-next, met-same, met-used, met-least: one number more is read; equal numbers were read; a number in use was read; a bound of what was read
+--   met-next, met-used, met-least: one number more is read; a number in use was read; a bound of what was read
+--   numbered-met: where things are numbered, so many numbers were read
 --   over-one: n things of which no two are alike, and one more, are more than n
 --   within-all: things one of which is like each are at most as many as they are
-use Prim.Native.Nat.{ℕ, zero, suc, _+_, _≤_, _<_, max}
-use mathlib.Core.Path.{_≡_, refl}
+use Prim.Native.Nat.{ℕ, zero, suc, _+_, _-_, _≤_, _<_, max}
+use mathlib.Core.Path.{_≡_}
 use mathlib.Core.Logic.{_⊎_, inl, inr}
 use native.Mathlib.Numerals.{add-one}
 use native.Mathlib.Omega.{arith}
 use Rattle.scope.specs.Canonical.{met, Arrival}
 use Rattle.scope.specs.Count.{Over, Within}
+use Rattle.scope.proofs.Arrival.{met-above}
 use Rattle.scope.proofs.Tests.{split}
+use Rattle.slices.specs.Numbered.{Numbered}
 
 -- one number more
 pub met-next : (f : ℕ → ℕ) (x : ℕ) → met f 0 (x + 1) ≡ max (met f 0 x) (f x + 1)
 unfolding met
 met-next f x = rw (add-one x, add-one (f x))
-
--- only what was read counts
-pub met-same : (f g : ℕ → ℕ) (x : ℕ) → ((y : ℕ) → y < x → f y ≡ g y) → met f 0 x ≡ met g 0 x
-unfolding met
-met-same f g zero e = refl
-met-same f g (suc x) e = rw (met-same f g x (λ y h. e y (omega arith)), e x (omega arith))
 
 -- a number in use was read
 pub met-used : (f : ℕ → ℕ) (x c : ℕ) → Arrival f 0 x → c < met f 0 x → (y : ℕ) × (y < x) × (f y ≡ c)
@@ -36,6 +33,13 @@ pub met-least : (f : ℕ → ℕ) (x v : ℕ) → ((y : ℕ) → y < x → f y <
 unfolding met
 met-least f zero v h = omega arith
 met-least f (suc x) v h = omega (arith, met-least f x v (λ y l. h y (omega arith)), h x (omega arith))
+
+-- so many numbers were read as were given
+pub numbered-met : {R : ℕ → ℕ → Type 0} {key number lead : ℕ → ℕ} {k e : ℕ} → Numbered R key number lead 0 k e → met number 0 e ≡ k
+numbered-met {number = number} {k = k} {e = e} n = elim (split 0 k) [
+  | inl h ↦ (let c = n .came (k - 1) (omega arith) (omega arith) in omega (arith, met-above number 0 e (c .thing) (c .inside), c .own, met-least number e k (n .below)))
+  | inr h ↦ omega (arith, met-least number e k (n .below))
+]
 
 -- the things g 0 .. g (n - 1), and x
 pub over-one : {A : Type 0} (P : A → Type 0) (Alike : A → A → Type 0) (n : ℕ) (g : (i : ℕ) → i < n → A) (x : A) → ((i : ℕ) (h : i < n) → P (g i h)) → P x

@@ -1,7 +1,6 @@
 -- The laws that the functions' proofs cite, one file a notion.
 pub mod Count
 pub mod Unions
-pub mod Ends
 pub mod Classes
 pub mod Spreading
 pub mod Masking

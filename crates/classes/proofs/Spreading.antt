@@ -15,8 +15,8 @@ use Rattle.scope.specs.Canonical.{met, Arrival}
 use Rattle.scope.proofs.Arrival.{met-above}
 use Rattle.scope.proofs.Tests.{split}
 use Rattle.slices.specs.Parts.{Stored}
-use Rattle.classes.specs.Group.{Like, By, Grouped}
-use Rattle.classes.specs.Runs.{Listed, In, RunsOf, Spread}
+use Rattle.classes.specs.Group.{By, Grouped, Spread}
+use Rattle.runs.specs.Runs.{Listed, In, RunsOf, Like}
 use Rattle.classes.proofs.Count.{met-used, met-least}
 use Rattle.classes.proofs.Classes.{class-below}
 

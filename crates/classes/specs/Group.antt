@@ -1,11 +1,11 @@
 -- Classes of byte values, or of things with a byte each, numbered by the smallest.
---   Like m n a b: each of the first n positions holds both a and b or neither
 --   By R byte i j: the bytes of the things i and j are alike by R
 --   Key m p byte old i j: i and j have the same class in `old`, and the position p + 1 holds the bytes of both or neither
 --   Classes R class k e: `class` gives the kinds R of the things below e the numbers 0 .. k - 1, by their smallest thing
 --   Grouped R map k e: the classes of the things below e, at most 64
 --   GroupAnswer R map e r: what grouping them by R answers
 --   Below map e: their classes are below 64
+--   Spread last count class map: each byte has in `map` what its run has in `class`
 use Prim.Native.Nat.{ℕ, _+_, _*_, _<_, _≤_}
 use mathlib.Core.Path.{_≡_}
 use mathlib.Core.Logic.{_↔_}
@@ -14,12 +14,10 @@ use lib.ListN.{length, getD}
 use Rattle.scope.specs.Limits.{byteValues, classLimit}
 use Rattle.scope.specs.Canonical.{met, Arrival}
 use Rattle.scope.specs.Count.{Over}
-use Rattle.classes.specs.Layout.{bitAt}
+use Rattle.sets.specs.Layout.{bitAt}
+use Rattle.runs.specs.Runs.{In}
 use Rattle.classes.specs.declared.Counted.{Counted}
 use Rattle.classes.specs.declared.Counted.the-variants.{Few, Many}
-
-abbrev pub Like : List ℕ → ℕ → ℕ → ℕ → Type 0
-Like m n a b = (p : ℕ) → p < n → bitAt m p a ≡ bitAt m p b
 
 abbrev pub By : (ℕ → ℕ → Type 0) → List ℕ → ℕ → ℕ → Type 0
 By R byte i j = R (getD byte i 0) (getD byte j 0)
@@ -43,3 +41,7 @@ GroupAnswer R map e Many = Over classLimit (λ (b : ℕ). b < e) R
 
 abbrev pub Below : List ℕ → ℕ → Type 0
 Below map e = (b : ℕ) → b < e → getD map b 0 < classLimit
+
+pub record Spread (last : List ℕ) (count : ℕ) (class map : List ℕ) : Type 0 where
+  pub size : length map ≡ byteValues
+  pub each : (i : ℕ) → i < count → (b : ℕ) → In last i b → getD map b 0 ≡ getD class i 0

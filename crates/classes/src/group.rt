@@ -3,10 +3,9 @@ ghost use mathlib.Core.Path.{_≡_};
 ghost use Prim.Native.Nat.{_*_, _<_, _≤_, _+_};
 ghost use lib.ListN.{length};
 ghost use Rattle.scope.specs.Limits.{byteValues, positionLimit};
-ghost use Rattle.classes.specs.Layout.{byteSet, bitAt};
-ghost use Rattle.classes.specs.Group.{Like, Key, Below, GroupAnswer};
-ghost use Rattle.classes.specs.Runs.{Listed, RunsOf, Spread};
-use crate::BYTE_SET;
+ghost use Rattle.sets.specs.Layout.{byteSet};
+ghost use Rattle.classes.specs.Group.{Key, Below, GroupAnswer, Spread};
+ghost use Rattle.runs.specs.Runs.{Listed, RunsOf, Like};
 use crate::Counted;
 use scope::Machine;
 
@@ -14,15 +13,6 @@ use scope::Machine;
 pub struct Groups {
     pub map: [u8; Machine::BYTES],
     pub answer: Counted,
-}
-
-// 1 if the position p + 1 holds the byte b, else 0.
-pub fn bit(bytes: &[u8], p: usize, b: usize) -> usize
-    requires { ⌜ (b < byteValues) × (p * byteSet + byteSet ≤ length (now bytes)) ⌝ }
-    ensures { λ r. ⌜ (r ≡ bitAt (now (bytes .entry)) p b) × (r < 2) ⌝ }
-{
-    let x = bytes[p * BYTE_SET + b / 8] as usize;
-    (x >> (b % 8)) % 2
 }
 
 // Splits the classes of the things by whether the position p + 1 holds their bytes, and answers how many there are. A class and a bit make a key; `names` has
@@ -42,7 +32,7 @@ fn split(
     let mut k: usize = 0;
     let mut i: usize = 0;
     while i < count {
-        let key = 2 * (class[i] as usize) + bit(bytes, p, byte[i] as usize);
+        let key = 2 * (class[i] as usize) + runs::bit(bytes, p, byte[i] as usize);
         let name = names[key];
         if name == 0 {
             if k == Machine::CLASSES {

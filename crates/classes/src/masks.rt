@@ -4,11 +4,10 @@ ghost use Prim.Native.Nat.{ℕ, _*_, _<_, _≤_};
 ghost use lib.ListN.{length};
 ghost use Rattle.scope.specs.Limits.{byteValues, positionLimit};
 ghost use Rattle.sets.specs.Value.{value};
-ghost use Rattle.classes.specs.Layout.{byteSet};
-ghost use Rattle.classes.specs.Group.{Like, Grouped};
-ghost use Rattle.classes.specs.Runs.{RunsOf};
+ghost use Rattle.sets.specs.Layout.{byteSet};
+ghost use Rattle.classes.specs.Group.{Grouped};
+ghost use Rattle.runs.specs.Runs.{RunsOf, Like};
 ghost use Rattle.classes.specs.Masks.{maskOf, Masked};
-use crate::group;
 use scope::Machine;
 use sets::Set;
 
@@ -20,7 +19,7 @@ fn byte_mask(bytes: &[u8], count: usize, b: usize) -> Set
     let mut mask = Set::none();
     let mut p: usize = 0;
     while p < count {
-        if group::bit(bytes, p, b) == 1 {
+        if runs::bit(bytes, p, b) == 1 {
             mask = mask.with(p + 1);
         }
         p += 1;

@@ -20,16 +20,19 @@ use Rattle.scope.specs.Machine.{Machine, walk, run, Closed}
 use Rattle.scope.specs.Reached.{FewSets}
 use Rattle.scope.specs.Room.{statesOf, classesOf, classOf, nextOf, machine, Sound}
 use Rattle.scope.proofs.Reached.{Covers, covers-recognises}
+use Rattle.scope.proofs.Buffers.{tail-then, tail-within}
 use Rattle.scope.proofs.Room.{flat-in}
 use Rattle.scope.proofs.Run.{run-below, sound-closed}
 use Rattle.sets.specs.Value.{setAt, Put}
 use Rattle.classes.specs.declared.Counted.{Counted}
 use Rattle.classes.specs.declared.Counted.the-variants.{Few, Many}
-use Rattle.determinise.specs.Layout.{setsAt, setOf}
-use Rattle.determinise.specs.Reach.{follows, cellAt, Rows, Fits, SetsOf, RowsCase, RowsAnswer}
-use Rattle.determinise.specs.Image.{markBy, Headed, Stated, Mapped, DescribedBy, ImageAnswer}
+use Rattle.sets.specs.Layout.{setsAt}
+use Rattle.seats.specs.Layout.{setOf}
+use Rattle.reach.specs.Reach.{follows, cellAt, Rows, Fits, SetsOf, RowsCase, RowsAnswer}
+use Rattle.determinise.specs.Image.{markBy, Begun, Stated, Mapped, DescribedBy, ImageAnswer}
 use Rattle.determinise.specs.declared.Built.the-variants.{Done, States}
-use Rattle.determinise.proofs.Kept.{kept-join, kept-wide, kept-sets, put-kept, kept-tail}
+use Rattle.reach.proofs.Cells.{rows-leads}
+use Rattle.seats.proofs.Kept.{kept-sets, put-kept, kept-tail}
 
 -- a string leads to the state of the set that it leads to
 pub covers-walk : (e : Re) (M : Machine) (sets : ℕ → ℕ) → Closed M → Covers e M sets → (w : List ℕ) (q : ℕ) → q < M .states → Bytes w
@@ -58,9 +61,9 @@ mark-small : (b : Bool) → cond b 0 1 < 2
 mark-small true = omega arith
 mark-small false = omega arith
 
--- o₁: the head, w₁: the words with {0}, o₂, w₂: with the rows
+-- o₁: the classes, w₁: the words with {0}, o₂, w₂: with the rows
 module _ (finals : ℕ) {o w m map : List ℕ} {k s : ℕ} {o₁ w₁ o₂ w₂ : List ℕ} {r : Counted} (t : Fits o w m k 0 1) (mp : Mapped map k)
-    (h : Headed o o₁ map k) (p : Put w w₁ setsAt s) (a : RowsAnswer o₁ w₁ m k o₂ w₂ r) where
+    (h : Begun o o₁ map) (p : Put w w₁ setsAt s) (a : RowsAnswer o₁ w₁ m k o₂ w₂ r) where
   sets-of : (e : Re) → DescribedBy e w m map finals → SetsOf e w₁ m k
   sets-of e d = record {
     small = d .small;
@@ -69,8 +72,7 @@ module _ (finals : ℕ) {o w m map : List ℕ} {k s : ℕ} {o₁ w₁ o₂ w₂ 
   }
 
   words-tail : TailKept ((setsAt + stateLimit) * setWords) w w₂
-  words-tail = kept-tail (kept-join (kept-wide (put-kept p) (setsAt * setWords) _ (omega arith) (omega arith))
-      (kept-wide (a .words) (setsAt * setWords) _ (omega arith) (omega arith)))
+  words-tail = tail-then (tail-within (omega arith) (kept-tail (put-kept p))) (kept-tail (a .words))
 
   -- too many sets
   pub image-many : r ≡ Many → ImageAnswer o w m map finals o₂ w₂ States
@@ -80,31 +82,28 @@ module _ (finals : ℕ) {o w m map : List ℕ} {k s : ℕ} {o₁ w₁ o₂ w₂ 
     made = λ e d. subst (RowsCase o₁ w₁ m k o₂ w₂) y (a .rows) e (sets-of e d);
   }
 
-  -- o₃: with the marks of the n sets
-  module _ {o₃ : List ℕ} {n : ℕ} (y : r ≡ Few n) (v : Stated o₂ o₃ (setOf w₂) n finals) where
+  -- o₃: with the head and the marks of the n sets
+  module _ {o₃ : List ℕ} {n : ℕ} (y : r ≡ Few n) (v : Stated o₂ o₃ (setOf w₂) n k finals) where
     filled : RowsCase o₁ w₁ m k o₂ w₂ (Few n)
     filled = subst (RowsCase o₁ w₁ m k o₂ w₂) y (a .rows)
 
-    -- outside of the marks and the cells the image is the head
-    from-head : (i : ℕ) → 0 < i → (i < marksAt) ⊎ (marksAt + n ≤ i) → (i < cellsAt) ⊎ (cellsAt + n * k ≤ i) → getD o₃ i 0 ≡ getD o₁ i 0
-    from-head i l x z = v .others i l x ∙ filled .1 .outside i z
-
-    classes : classesOf o₃ ≡ k
-    classes = from-head 1 (omega arith) (inl (omega arith)) (inl (omega arith)) ∙ h .count
+    -- outside of the head, the marks and the cells the image is as it began
+    from-start : (i : ℕ) → classesAt ≤ i → (i < marksAt) ⊎ (marksAt + n ≤ i) → (i < cellsAt) ⊎ (cellsAt + n * k ≤ i) → getD o₃ i 0 ≡ getD o₁ i 0
+    from-start i l x z = v .others i l x ∙ filled .1 .outside i z
 
     class : (b : ℕ) → b < byteValues → classOf o₃ b ≡ getD map b 0
-    class b l = from-head (classesAt + b) (omega arith) (inl (omega arith)) (inl (omega arith)) ∙ h .classes b l
+    class b l = from-start (classesAt + b) (omega arith) (inl (omega arith)) (inl (omega arith)) ∙ h .classes b l
 
     cell : (i : ℕ) → cellAt o₃ i ≡ cellAt o₂ i
     cell i = v .others (cellsAt + i) (omega arith) (inr (omega (arith, filled .0)))
 
     used : statesOf o₃ * classesOf o₃ ≡ n * k
-    used = rw (v .count, classes)
+    used = rw (v .states, v .count)
 
     tail : TailKept roomBytes o o₃
     tail = record {
       size = v .size ∙ a .image .size ∙ h .size;
-      outside = λ i l. from-head i (omega arith) (inr (omega (arith, filled .0))) (inr (omega (arith, mul-le-mul (filled .0) (mp .few)))) ∙ h .tail i l;
+      outside = λ i l. from-start i (omega arith) (inr (omega (arith, filled .0))) (inr (omega (arith, mul-le-mul (filled .0) (mp .few)))) ∙ h .tail i l;
     }
 
     module _ (e : Re) (d : DescribedBy e w m map finals) where
@@ -114,18 +113,18 @@ module _ (finals : ℕ) {o w m map : List ℕ} {k s : ℕ} {o₁ w₁ o₂ w₂ 
       sound : Sound o₃
       sound = record {
         long = omega (arith, tail .size, t .image);
-        some-state = omega (arith, v .count, rows .some);
-        few-states = omega (arith, v .count, filled .0);
-        some-class = omega (arith, classes, mp .some);
-        few-classes = omega (arith, classes, mp .few);
+        some-state = omega (arith, v .states, rows .numbered .some);
+        few-states = omega (arith, v .states, filled .0);
+        some-class = omega (arith, v .count, mp .some);
+        few-classes = omega (arith, v .count, mp .few);
         classes = λ i l g. (let z : i ≡ classesAt + (i - classesAt) = omega arith in
-            rw (classes, z, class (i - classesAt) (omega arith)) (mp .below (i - classesAt) (omega arith)));
+            rw (v .count, z, class (i - classesAt) (omega arith)) (mp .below (i - classesAt) (omega arith)));
         marks = λ i l g. (let z : i ≡ marksAt + (i - marksAt) = omega arith in
-            rw (z, v .marks (i - marksAt) (omega (arith, v .count))) (mark-small (eqb (bitAnd (setOf w₂ (i - marksAt)) finals) 0)));
-        marks-off = λ i l g. omega (arith, from-head i (omega arith) (inr (omega (arith, v .count))) (inl l), h .rest i (omega arith) (omega arith));
+            rw (z, v .marks (i - marksAt) (omega (arith, v .states))) (mark-small (eqb (bitAnd (setOf w₂ (i - marksAt)) finals) 0)));
+        marks-off = λ i l g. omega (arith, from-start i (omega arith) (inr (omega (arith, v .states))) (inl l), h .rest i (omega arith) (omega arith));
         cells = λ i l g. (let z : i ≡ cellsAt + (i - cellsAt) = omega arith in
-            rw (z, cell (i - cellsAt), v .count) (rows .below (i - cellsAt) (omega (arith, used))));
-        cells-off = λ i l g. omega (arith, from-head i (omega arith) (inr (omega (arith, filled .0))) (inr (omega (arith, used))), h .rest i l (omega arith));
+            rw (z, cell (i - cellsAt), v .states) (rows .numbered .below (i - cellsAt) (omega (arith, used))));
+        cells-off = λ i l g. omega (arith, from-start i (omega arith) (inr (omega (arith, filled .0))) (inr (omega (arith, used))), h .rest i l (omega arith));
       }
 
       covers : Covers e (machine o₃) (setOf w₂)
@@ -134,9 +133,9 @@ module _ (finals : ℕ) {o w m map : List ℕ} {k s : ℕ} {o₁ w₁ o₂ w₂ 
         start = rows .begins;
         moves = λ q b l g.
             (let c = getD map b 0 in
-            rw (classes, class b g, cell (q * k + c)) (rows .leads q c (mp .below b g) (flat-in n k q c (rw (v .count) at l) (mp .below b g)))
+            rw (v .count, class b g, cell (q * k + c)) (rows-leads rows q c (mp .below b g) (flat-in n k q c (rw (v .states) at l) (mp .below b g)))
             ∙ ap (bitAnd (follows e (setOf w₂ q))) (d .masks b g));
-        marks = λ q l. ap (λ (i : ℕ). eqb i 1) (v .marks q (rw (v .count) at l) ∙ ap (λ (i : ℕ). markBy i (setOf w₂ q)) (d .ends))
+        marks = λ q l. ap (λ (i : ℕ). eqb i 1) (v .marks q (rw (v .states) at l) ∙ ap (λ (i : ℕ). markBy i (setOf w₂ q)) (d .ends))
             ∙ mark-test (eqb (bitAnd (setOf w₂ q) (final e)) 0);
       }
 

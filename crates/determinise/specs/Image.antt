@@ -1,7 +1,7 @@
--- The image: a head, the rows of the reached sets, their marks.
+-- The image: the classes, the rows of the reached sets, the head and the marks.
 --   markBy finals s: 1 if s has a final position, else 0
---   Headed o o′ map k: an image with k and the classes, and zeros after them
---   Stated o o′ set n finals: an image with n and the marks of n sets, else as it was
+--   Begun o o′ map: an image with the classes, and zeros after them
+--   Stated o o′ set n k finals: an image with n, k and the marks of n sets, else as it was
 --   Mapped map k: classes of the 256 byte values, 1 to 64, each with a byte
 --   DescribedBy e w m map finals: the buffers hold the sets of the expression e
 --   ImageAnswer o w m map finals o′ w′ r: what determinising answers and keeps; for every expression that the buffers describe, what it makes
@@ -13,7 +13,7 @@ use mathlib.Core.Logic.{_⊎_}
 use lib.Bits.{bitAnd}
 use lib.Dec.{eqb}
 use lib.ListN.{length, getD}
-use Rattle.scope.specs.Limits.{byteValues, classLimit, stateLimit, positionLimit, marksAt, roomBytes, setWords}
+use Rattle.scope.specs.Limits.{byteValues, classLimit, stateLimit, positionLimit, classesAt, marksAt, roomBytes, setWords}
 use Rattle.scope.specs.Re.{Re, size, Words}
 use Rattle.scope.specs.Bits.{holders, after, final}
 use Rattle.scope.specs.Buffers.{TailKept}
@@ -21,25 +21,25 @@ use Rattle.scope.specs.Machine.{Recognises}
 use Rattle.scope.specs.Reached.{ManySets, FewSets}
 use Rattle.scope.specs.Room.{statesOf, classesOf, classOf, markOf, machine, Sound}
 use Rattle.sets.specs.Value.{setAt}
-use Rattle.determinise.specs.Layout.{setsAt}
+use Rattle.sets.specs.Layout.{setsAt}
 use Rattle.determinise.specs.declared.Built.{Built}
 use Rattle.determinise.specs.declared.Built.the-variants.{Done, Classes, States}
 
 abbrev pub markBy : ℕ → ℕ → ℕ
 markBy finals s = cond (eqb (bitAnd s finals) 0) 0 1
 
-pub record Headed (o o′ map : List ℕ) (k : ℕ) : Type 0 where
+pub record Begun (o o′ map : List ℕ) : Type 0 where
   pub size : length o′ ≡ length o
-  pub count : classesOf o′ ≡ k
   pub classes : (b : ℕ) → b < byteValues → classOf o′ b ≡ getD map b 0
   pub rest : (i : ℕ) → i < roomBytes → marksAt ≤ i → getD o′ i 0 ≡ 0
   pub tail : (i : ℕ) → roomBytes ≤ i → getD o′ i 0 ≡ getD o i 0
 
-pub record Stated (o o′ : List ℕ) (set : ℕ → ℕ) (n finals : ℕ) : Type 0 where
+pub record Stated (o o′ : List ℕ) (set : ℕ → ℕ) (n k finals : ℕ) : Type 0 where
   pub size : length o′ ≡ length o
-  pub count : statesOf o′ ≡ n
+  pub states : statesOf o′ ≡ n
+  pub count : classesOf o′ ≡ k
   pub marks : (q : ℕ) → q < n → markOf o′ q ≡ markBy finals (set q)
-  pub others : (i : ℕ) → 0 < i → (i < marksAt) ⊎ (marksAt + n ≤ i) → getD o′ i 0 ≡ getD o i 0
+  pub others : (i : ℕ) → classesAt ≤ i → (i < marksAt) ⊎ (marksAt + n ≤ i) → getD o′ i 0 ≡ getD o i 0
 
 pub record Mapped (map : List ℕ) (k : ℕ) : Type 0 where
   pub some : 1 ≤ k

@@ -1,5 +1,3 @@
 -- From sets of positions to a room image, one file a pass.
-pub mod Layout
-pub mod Reach
 pub mod Image
 pub mod Build

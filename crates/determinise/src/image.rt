@@ -1,28 +1,27 @@
-// The room image: its head, the rows, the marks.
+// The room image: its classes, the rows, then the head and the marks.
 ghost use mathlib.Core.Path.{_≡_};
 ghost use Prim.Native.Nat.{_+_, _-_, _*_, _≤_};
 ghost use lib.ListN.{length};
 ghost use Rattle.scope.specs.Limits.{classLimit, stateLimit, marksAt, roomBytes, setWords};
 ghost use Rattle.slices.specs.Parts.{Stored};
 ghost use Rattle.sets.specs.Value.{value};
-ghost use Rattle.determinise.specs.Layout.{setsAt, setOf};
-ghost use Rattle.determinise.specs.Reach.{Fits};
-ghost use Rattle.determinise.specs.Image.{markBy, Headed, Stated, Mapped, ImageAnswer};
+ghost use Rattle.sets.specs.Layout.{setsAt};
+ghost use Rattle.seats.specs.Layout.{setOf};
+ghost use Rattle.reach.specs.Reach.{Fits};
+ghost use Rattle.determinise.specs.Image.{markBy, Begun, Stated, Mapped, ImageAnswer};
 use crate::Built;
-use crate::SETS_AT;
-use crate::reach;
 use classes::Counted;
 use scope::Machine;
 use sets::Set;
+use sets::layout::SETS_AT;
 
-// Writes k and the classes, and zeros after them.
-fn write_head(image: &mut [u8], map: [u8; Machine::BYTES], k: usize)
-    requires { ⌜ (roomBytes ≤ length (now image)) × (k ≤ classLimit) ⌝ }
-    ensures { λ _. ⌜ Headed (now (image .entry)) (now (image .exit)) map k ⌝ }
+// Writes the classes, and zeros around them.
+fn write_map(image: &mut [u8], map: [u8; Machine::BYTES])
+    requires { ⌜ roomBytes ≤ length (now image) ⌝ }
+    ensures { λ _. ⌜ Begun (now (image .entry)) (now (image .exit)) map ⌝ }
 {
     slices::fill(image, 0, Machine::ROOM, 0);
     slices::write_classes(image, &map);
-    image[1] = k as u8;
 }
 
 // The mark of a set: 1 if it has a final position, else 0.
@@ -48,12 +47,18 @@ fn write_marks(image: &mut [u8], words: &[u64], n: usize, finals: Set)
     }
 }
 
-// Writes how many reached sets there are, and their marks.
-fn write_states(image: &mut [u8], words: &[u64], n: usize, finals: Set)
-    requires { ⌜ (n ≤ stateLimit) × (roomBytes ≤ length (now image)) × ((setsAt + stateLimit) * setWords ≤ length (now words)) ⌝ }
-    ensures { λ _. ⌜ Stated (now (image .entry)) (now (image .exit)) (setOf (now (words .entry))) n (value (finals .words)) ⌝ }
+// Writes how many reached sets and classes there are, and the marks of the sets.
+fn write_states(image: &mut [u8], words: &[u64], n: usize, k: usize, finals: Set)
+    requires { ⌜ (n ≤ stateLimit) × (k ≤ classLimit) × (roomBytes ≤ length (now image)) × ((setsAt + stateLimit) * setWords ≤ length (now words)) ⌝ }
+    ensures { λ _. ⌜ Stated (now (image .entry)) (now (image .exit)) (setOf (now (words .entry))) n k (value (finals .words)) ⌝ }
 {
-    image[0] = n as u8;
+    room::write_head(
+        image,
+        Machine {
+            states: n,
+            classes: k,
+        },
+    );
     write_marks(image, words, n, finals);
 }
 
@@ -70,12 +75,12 @@ pub fn determinise(
     requires { ⌜ Mapped map k ⌝ }
     ensures { λ r. ⌜ ImageAnswer (now (image .entry)) (now (words .entry)) (now (masks .entry)) map (value (finals .words)) (now (image .exit)) (now (words .exit)) r ⌝ }
 {
-    write_head(image, map, k);
+    write_map(image, map);
     sets::store(words, SETS_AT, Set::one(0));
     let counted = reach::rows(image, words, masks, k);
     match counted {
         Counted::Few(n) => {
-            write_states(image, words, n, finals);
+            write_states(image, words, n, k, finals);
             Built::Done
         }
         Counted::Many => Built::States,

@@ -1,7 +1,7 @@
-// From the sets of positions of an expression to a sound room image whose states are the reached sets. `classes` gives the classes of byte values and their masks;
-// then one file a pass: `reach` finds the reached sets row by row, `image` writes the room around them.
+// From the sets of positions of an expression to a sound room image whose states are the reached sets. `runs` finds the runs of byte values, `classes` gives their classes and masks,
+// `reach` finds the reached sets row by row, and `image` writes the room around them.
 ghost use mathlib.Core.Path.{_≡_};
-ghost use Prim.Native.Nat.{_+_, _*_, _≤_};
+ghost use Prim.Native.Nat.{_≤_};
 ghost use lib.Bits.{bitOr};
 ghost use Rattle.scope.specs.Bits.{given};
 ghost use Rattle.scope.specs.Buffers.{Scratch};
@@ -9,17 +9,10 @@ ghost use Rattle.scope.specs.Limits.{positionLimit};
 ghost use Rattle.sets.specs.Value.{value};
 ghost use Rattle.determinise.specs.Build.{Builds};
 use classes::Counted;
-use scope::Machine;
 use sets::Set;
+use sets::layout::IMAGE_AT;
 
 mod image;
-mod reach;
-
-// The bytes hold the byte set of each position, then the image.
-pub const IMAGE_AT: usize = Machine::POSITIONS * classes::BYTE_SET;
-
-// The words hold First and the follow set of each position, then the reached sets.
-pub const SETS_AT: usize = Machine::POSITIONS + 1;
 
 // What building answers.
 pub enum Built {
@@ -40,7 +33,7 @@ pub fn build(bytes: &mut [u8], words: &mut [u64], count: usize, last: Set, null:
     requires { ⌜ (count ≤ positionLimit) × Scratch (now bytes) (now words) ⌝ }
     ensures { λ r. ⌜ Builds (now (bytes .entry)) (now (words .entry)) count (value (last .words)) null (now (bytes .exit)) (now (words .exit)) r ⌝ }
 {
-    let found = classes::runs::find(bytes, count);
+    let found = runs::find(bytes, count);
     let ends = found.last;
     let runs = found.count;
     let groups = classes::group::group(bytes, count, &ends, runs);

@@ -1,9 +1,8 @@
 -- What w words are as a number, over w: an operation that goes digit by digit goes word by word. By induction on w, the lowest word first.
---   set-more: an array filled one element further
 --   value-or, value-and: the union and what is common
 --   value-none, value-load, value-equal, value-other: the empty set, a set of a buffer, and when two sets are the same
 --   has-at, one-at: the bit p stands in the word p / 64
---   put, put-other: a set stored in a buffer, and the others there
+--   put, set-kept, put-other: a set stored in a buffer; a set whose words stay; the others there
 use Prim.Native.Nat.{ℕ, zero, suc, _+_, _-_, _*_, _/_, _%_, _^_, _≤_, _<_}
 use mathlib.Core.Path.{_≡_, refl, sym, ap, ap₂, _∙_}
 use mathlib.Core.List.{List}
@@ -11,15 +10,15 @@ use mathlib.Core.Logic.{_⊎_, inl, inr}
 use native.Mathlib.Nat.{add-zero, zero-add, add-suc, suc-add, mul-assoc, mul-add-div-right, mul-add-mod-self-right, div-eq-of-lt, mod-eq-of-lt, mod-lt, mod-mod, div-add-mod'}
 use native.Mathlib.Omega.{arith}
 use native.Mathlib.Decide.{ℕ-discrete}
-use borrow.Author.Count.{below-more}
 use lib.Dec.{eqb}
 use lib.Pow.{pow-add, pow-pos, pow-lt, shr-shr}
 use lib.Bits.{bitOr, bitAnd, or-block, and-block, or-mod, and-mod}
-use lib.ListN.{length, getD, set, replicate, getD-replicate}
+use lib.ListN.{getD, set, replicate, getD-replicate}
 use lib.Seq.{getD-set-same, getD-set-other}
 use Rattle.scope.specs.Bits.{has}
 use Rattle.scope.specs.Limits.{setWords}
 use Rattle.scope.proofs.Tests.{split}
+use Rattle.slices.specs.Parts.{Stored}
 use Rattle.sets.specs.Value.{setBits, valueAt, value, setAt, Put}
 
 on : (m : List ℕ) (i x : ℕ) → getD m (suc i + x) 0 ≡ getD m (i + suc x) 0
@@ -30,10 +29,6 @@ at m i = ap (λ (n : ℕ). getD m n 0) (add-zero i)
 
 small : (x : ℕ) → x % 2 ^ 64 < 2 ^ 64
 small x = mod-lt x (pow-pos 64)
-
--- one element more is what it should be
-pub set-more : {f : ℕ → ℕ} (r : List ℕ) (i : ℕ) → i < length r → ((x : ℕ) → x < i → getD r x 0 ≡ f x) → (x : ℕ) → x < i + 1 → getD (set r i (f i)) x 0 ≡ f x
-set-more {f} r i l h = below-more _ _ (λ x k. getD-set-other r i x (f i) 0 (λ e. omega arith) ∙ h x k) (getD-set-same r i (f i) 0 l)
 
 -- ---- operations
 
@@ -156,13 +151,23 @@ one-at p v h e =
 
 -- ---- sets of a buffer
 
-pub put : (m m′ s : List ℕ) (i : ℕ) → length m′ ≡ length m → ((x : ℕ) → x < setWords → getD m′ (i * setWords + x) 0 ≡ getD s x 0)
-    → ((j : ℕ) → (j < i * setWords) ⊎ (i * setWords + setWords ≤ j) → getD m′ j 0 ≡ getD m j 0) → Put m m′ i (value s)
-put m m′ s i l e o = record { size = l; here = sym (value-load m′ s i (λ x h. sym (e x h))); outside = o }
+-- the words of a set, stored at its place
+pub put : (m m′ s : List ℕ) (i : ℕ) {w : ℕ} → Stored m m′ (i * setWords) (i * setWords + w) (λ j. getD s (j - i * setWords) 0) → w ≡ setWords → Put m m′ i (value s)
+put m m′ s i x z = let y = rw z at x in
+    record {
+      size = y .size;
+      here = sym (value-load m′ s i (λ j h. let e : i * setWords + j - i * setWords ≡ j = omega arith in
+          sym (y .inside (i * setWords + j) (omega arith) (omega arith) ∙ ap (λ (n : ℕ). getD s n 0) e)));
+      outside = y .outside;
+    }
+
+-- a set whose words stay
+pub set-kept : (m m′ : List ℕ) (i : ℕ) → ((x : ℕ) → x < setWords → getD m′ (i * setWords + x) 0 ≡ getD m (i * setWords + x) 0) → setAt m′ i ≡ setAt m i
+set-kept m m′ i e = value-same setWords m′ m (i * setWords) (i * setWords) e
 
 -- the other sets stay
 pub put-other : {m m′ : List ℕ} {i s : ℕ} → Put m m′ i s → (j : ℕ) → (j ≡ i → ⊥) → setAt m′ j ≡ setAt m j
-put-other {m} {m′} {i} p j ne = value-same setWords m′ m (j * setWords) (j * setWords) (λ x h. p .outside (j * setWords + x) (apart x h (split j i)))
+put-other {m} {m′} {i} p j ne = set-kept m m′ j (λ x h. p .outside (j * setWords + x) (apart x h (split j i)))
   where
     apart : (x : ℕ) → x < setWords → (j < i) ⊎ (i ≤ j) → (j * setWords + x < i * setWords) ⊎ (i * setWords + setWords ≤ j * setWords + x)
     apart x h (inl k) = inl (omega arith)

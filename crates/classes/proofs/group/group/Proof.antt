@@ -3,7 +3,8 @@ use Prim.Native.Nat.{_≤_, _-_}
 use mathlib.Core.Path.{_≡_}
 use native.Mathlib.Omega.{arith}
 use borrow.Author.Needs.{needs}
-use Rattle.classes.specs.Group.{Like, By, Grouped}
+use Rattle.runs.specs.Runs.{Like}
+use Rattle.classes.specs.Group.{By, Grouped}
 use Rattle.classes.proofs.Classes.{group-none, group-below, group-next, group-many}
 use Rattle.classes.proofs.Spreading.{group-spread}
 use Rattle.classes.proofs.group.group.Statement.{statement}

@@ -2,7 +2,7 @@
 use mathlib.Core.Path.{_∙_}
 use native.Mathlib.Omega.{arith}
 use borrow.Author.Needs.{needs}
-use Rattle.determinise.proofs.Filled.{filled-few}
+use Rattle.reach.proofs.Filled.{filled-few}
 use Rattle.determinise.proofs.Images.{image-many, image-made}
 use Rattle.determinise.proofs.image.determinise.Statement.{statement}
 use Rattle.determinise.proofs.image.determinise.Tie as tie
@@ -15,10 +15,10 @@ write-states-requires c κs = let r = c .before .before .before .before .before 
     let s = r .before .before .before .before .before in
     let h = s .before .before .before .before .before in
     let p = h .before .before .before .before .before .pre .0 in
-    (filled-few (r .rows .ensures) (c .before .before .before .counted .given .1), omega (arith, p .image, r .rows .ensures .image .size, h .write-head .ensures .size), omega (arith, p .words, r .rows .ensures .words .size, s .store .ensures .size))
+    (filled-few (r .rows .ensures) (c .before .before .before .counted .given .1), p .classes, omega (arith, p .image, r .rows .ensures .image .size, h .write-map .ensures .size), omega (arith, p .words, r .rows .ensures .words .size, s .store .ensures .size))
 
 same-length : tie.Need-same-length
-same-length c = let r = c .before .before .before .before .before .before .before .before .before .before .before .before in c .before .before .write-states .ensures .size ∙ r .rows .ensures .image .size ∙ r .before .before .before .before .before .before .before .before .before .before .write-head .ensures .size
+same-length c = let r = c .before .before .before .before .before .before .before .before .before .before .before .before in c .before .before .write-states .ensures .size ∙ r .rows .ensures .image .size ∙ r .before .before .before .before .before .before .before .before .before .before .write-map .ensures .size
 
 same-length-2 : tie.Need-same-length-2
 same-length-2 c = let r = c .before .before .before .before .before .before .before .before .before .before .before .before in r .rows .ensures .words .size ∙ r .before .before .before .before .before .store .ensures .size
@@ -27,10 +27,10 @@ returns : tie.Need-returns
 returns c = let r = c .before .before .before .before .before .before .before .before .before .before .before .before in
     let s = r .before .before .before .before .before in
     let h = s .before .before .before .before .before in
-    image-made _ (h .before .before .before .before .before .pre .0) (h .before .before .before .before .before .pre .1) (h .write-head .ensures) (s .store .ensures) (r .rows .ensures) (c .before .before .before .before .before .before .counted .given .1) (c .before .before .write-states .ensures)
+    image-made _ (h .before .before .before .before .before .pre .0) (h .before .before .before .before .before .pre .1) (h .write-map .ensures) (s .store .ensures) (r .rows .ensures) (c .before .before .before .before .before .before .counted .given .1) (c .before .before .write-states .ensures)
 
 same-length-3 : tie.Need-same-length-3
-same-length-3 c = let r = c .before .before .before .before .before .before in r .rows .ensures .image .size ∙ r .before .before .before .before .before .before .before .before .before .before .write-head .ensures .size
+same-length-3 c = let r = c .before .before .before .before .before .before in r .rows .ensures .image .size ∙ r .before .before .before .before .before .before .before .before .before .before .write-map .ensures .size
 
 same-length-4 : tie.Need-same-length-4
 same-length-4 c = let r = c .before .before .before .before .before .before in r .rows .ensures .words .size ∙ r .before .before .before .before .before .store .ensures .size
@@ -39,7 +39,7 @@ returns-2 : tie.Need-returns-2
 returns-2 c = let r = c .before .before .before .before .before .before in
     let s = r .before .before .before .before .before in
     let h = s .before .before .before .before .before in
-    image-many _ (h .before .before .before .before .before .pre .0) (h .before .before .before .before .before .pre .1) (h .write-head .ensures) (s .store .ensures) (r .rows .ensures) (c .enum-told .given .1)
+    image-many _ (h .before .before .before .before .before .pre .0) (h .before .before .before .before .before .pre .1) (h .write-map .ensures) (s .store .ensures) (r .rows .ensures) (c .enum-told .given .1)
 
 pub determinise-spec : {M : Type 1} → statement M
 determinise-spec =

@@ -7,7 +7,7 @@ use Rattle.scope.specs.Limits.{marksAt}
 use Rattle.slices.specs.Parts.{Stored}
 use Rattle.slices.proofs.Laws.{stored-none, stored-more}
 use Rattle.sets.specs.Value.{value}
-use Rattle.determinise.specs.Layout.{setOf}
+use Rattle.seats.specs.Layout.{setOf}
 use Rattle.determinise.specs.Image.{markBy}
 use Rattle.determinise.proofs.image.write_marks.Statement.{statement}
 use Rattle.determinise.proofs.image.write_marks.Tie as tie

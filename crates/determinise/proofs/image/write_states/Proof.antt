@@ -1,13 +1,12 @@
--- What writing n and the marks leaves.
+-- What writing the head and the marks leaves.
 use mathlib.Core.Path.{_∙_}
 use borrow.Author.Needs.{needs}
-use lib.ListN.{length-set}
 use Rattle.determinise.proofs.Heads.{stated}
 use Rattle.determinise.proofs.image.write_states.Statement.{statement}
 use Rattle.determinise.proofs.image.write_states.Tie as tie
 
 same-length : tie.Need-same-length
-same-length c = c .before .before .write-marks .ensures .size ∙ length-set (c .before .before .before .before .before .before .args .image .now) 0 (c .before .before .before .before .before .before .args .n)
+same-length c = c .before .before .write-marks .ensures .size ∙ c .before .before .before .before .before .before .write-head .ensures .size
 
 returns : tie.Need-returns
 returns c = search (needs, stated)
@@ -16,8 +15,7 @@ pub write-states-spec : {M : Type 1} → statement M
 write-states-spec =
     tie.close
     (tie.spec
-    (λ c. search needs)
-    (λ c. search needs)
+    (λ c κs. search needs)
     (λ c κs. search needs)
     same-length
     returns)

@@ -1,0 +1,2 @@
+-- What the contracts of the search for reached sets cite.
+pub mod Reach

@@ -1,0 +1,2 @@
+-- The laws of the runs.
+pub mod Ends

@@ -1,0 +1,2 @@
+-- What the contracts of the runs cite.
+pub mod Runs

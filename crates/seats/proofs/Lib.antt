@@ -1,0 +1,3 @@
+-- The laws of the seats.
+pub mod Kept
+pub mod Seats
