@@ -85,8 +85,8 @@ pub fn escape(text: &[u8], at: usize) -> Taken
 {
     let b = byte_at(text, at + 1);
     if b == CODE {
-        let high = judge::bytes::hex_value(text[at + 2]);
-        let low = judge::bytes::hex_value(text[at + 3]);
+        let high = literals::hex_value(text[at + 2]);
+        let low = literals::hex_value(text[at + 3]);
         Taken {
             next: at + 4,
             byte: high * 16 + low,
