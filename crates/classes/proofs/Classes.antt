@@ -9,11 +9,9 @@ use Prim.Native.Nat.{ℕ, zero, suc, _+_, _-_, _*_, _≤_, _<_, max}
 use mathlib.Core.Path.{_≡_, refl, sym, ap, ap₂, subst, _∙_}
 use mathlib.Core.List.{List}
 use mathlib.Core.Logic.{_⊎_, inl, inr, _↔_}
-use native.Mathlib.Nat.{mod-lt}
 use native.Mathlib.Omega.{arith}
 use native.Mathlib.Decide.{ℕ-discrete}
 use borrow.Author.Count.{below-more}
-use lib.Dec.{lit<}
 use lib.ListN.{length, getD, set, length-set, replicate, length-replicate}
 use lib.Seq.{getD-set-same, getD-set-other}
 use Rattle.scope.specs.Limits.{byteValues, classLimit}
@@ -22,7 +20,8 @@ use Rattle.scope.specs.Count.{Over}
 use Rattle.scope.proofs.Arrival.{met-above, arrival-ext}
 use Rattle.scope.proofs.Tests.{split}
 use Rattle.scope.proofs.Lists.{zeros}
-use Rattle.classes.specs.Layout.{bitAt}
+use Rattle.sets.specs.Layout.{bitAt}
+use Rattle.sets.proofs.Held.{bit-small}
 use Rattle.classes.specs.Group.{Like, By, Key, Classes, Grouped, GroupAnswer, Below}
 use Rattle.classes.specs.Runs.{Listed}
 use Rattle.classes.specs.declared.Counted.{Counted}
@@ -90,9 +89,6 @@ pub record Splitting (m : List ℕ) (p : ℕ) (byte old names map : List ℕ) (k
   pub classes : Classes (Key m p byte old) (λ a. getD map a 0) k b
   pub filled : (a : ℕ) → a < b → getD names (keyOf m p byte old a) 0 ≡ getD map a 0 + 1
   pub known : (i : ℕ) → 0 < getD names i 0 → (a : ℕ) × (a < b) × (keyOf m p byte old a ≡ i)
-
-bit-small : (m : List ℕ) (p b : ℕ) → bitAt m p b < 2
-bit-small m p b = mod-lt _ (lit< tt)
 
 pub splitting-none : (m : List ℕ) (p : ℕ) (byte old : List ℕ) → length old ≡ byteValues → Splitting m p byte old (replicate (2 * classLimit) 0) old 0 0
 unfolding met

@@ -22,7 +22,7 @@ use Rattle.scope.specs.Limits.{byteValues}
 use Rattle.scope.proofs.Bits.{digit}
 use Rattle.scope.proofs.Tests.{split}
 use Rattle.sets.proofs.Words.{set-more}
-use Rattle.classes.specs.Layout.{byteSet, bitAt}
+use Rattle.sets.specs.Layout.{byteSet, bitAt}
 use Rattle.classes.specs.Group.{Like}
 use Rattle.classes.specs.Runs.{Joined, Noted, In, RunsOf}
 

@@ -4,10 +4,10 @@
 --   masking-none, masking-new, masking-old, masking-all: its turns
 use Prim.Native.Nat.{ℕ, _+_, _*_, _^_, _≤_, _<_, max}
 use mathlib.Core.Path.{_≡_, refl, sym, ap, _∙_}
+use mathlib.Core.Bool.{Bool}
 use mathlib.Core.List.{List}
 use native.Mathlib.Omega.{arith}
 use borrow.Author.Count.{below-more}
-use lib.Dec.{eqb}
 use lib.ListN.{length, getD}
 use Rattle.scope.specs.Limits.{byteValues, classLimit, setWords}
 use Rattle.scope.specs.Bits.{given}
@@ -15,6 +15,7 @@ use Rattle.scope.specs.Canonical.{met}
 use Rattle.scope.proofs.Arrival.{met-above}
 use Rattle.sets.specs.Value.{setAt, Put}
 use Rattle.sets.proofs.Words.{put-other}
+use Rattle.sets.proofs.Held.{held-same}
 use Rattle.classes.specs.Group.{Like, Grouped}
 use Rattle.classes.specs.Runs.{RunsOf}
 use Rattle.classes.specs.Masks.{maskOf, Masked}
@@ -25,7 +26,7 @@ use Rattle.classes.proofs.Unions.{joined-same}
 
 -- bytes that each position holds both or neither have the same mask
 pub mask-like : (m : List ℕ) (n a b : ℕ) → Like m n a b → maskOf m a n ≡ maskOf m b n
-mask-like m n a b l = joined-same _ _ n (λ p h. ap (λ (i : ℕ). given (eqb i 1) (2 ^ (p + 1))) (l p h))
+mask-like m n a b l = joined-same _ _ n (λ p h. ap (λ (x : Bool). given x (2 ^ (p + 1))) (held-same m p a b (l p h)))
 
 pub record Masking (m : List ℕ) (count : ℕ) (last map masks : List ℕ) (n i : ℕ) : Type 0 where
   pub size : length masks ≡ classLimit * setWords

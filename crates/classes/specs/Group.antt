@@ -14,7 +14,7 @@ use lib.ListN.{length, getD}
 use Rattle.scope.specs.Limits.{byteValues, classLimit}
 use Rattle.scope.specs.Canonical.{met, Arrival}
 use Rattle.scope.specs.Count.{Over}
-use Rattle.classes.specs.Layout.{bitAt}
+use Rattle.sets.specs.Layout.{bitAt}
 use Rattle.classes.specs.declared.Counted.{Counted}
 use Rattle.classes.specs.declared.Counted.the-variants.{Few, Many}
 

@@ -1,5 +1,4 @@
 -- From the byte sets of positions to classes of byte values and their masks, one file a pass.
-pub mod Layout
 pub mod Runs
 pub mod Group
 pub mod Masks

@@ -8,10 +8,10 @@ use lib.ListN.{length, getD}
 use Rattle.scope.specs.Limits.{classLimit, setWords}
 use Rattle.scope.specs.Bits.{given, joined}
 use Rattle.sets.specs.Value.{setAt}
-use Rattle.classes.specs.Layout.{holds}
+use Rattle.sets.specs.Layout.{held}
 
 abbrev pub maskOf : List ℕ → ℕ → ℕ → ℕ
-maskOf m b n = joined (λ p. given (holds m p b) (2 ^ (p + 1))) n
+maskOf m b n = joined (λ p. given (held m p b) (2 ^ (p + 1))) n
 
 pub record Masked (m : List ℕ) (n : ℕ) (map masks : List ℕ) (e : ℕ) : Type 0 where
   pub size : length masks ≡ classLimit * setWords

@@ -10,7 +10,7 @@ use mathlib.Core.Path.{_≡_}
 use mathlib.Core.List.{List}
 use lib.ListN.{length, getD}
 use Rattle.scope.specs.Limits.{byteValues}
-use Rattle.classes.specs.Layout.{bitAt}
+use Rattle.sets.specs.Layout.{bitAt}
 
 abbrev pub Joined : List ℕ → ℕ → ℕ → Type 0
 Joined ends a b = (c : ℕ) → c < b → a ≤ c → bitAt ends 0 c ≡ 0

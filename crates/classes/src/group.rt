@@ -3,12 +3,12 @@ ghost use mathlib.Core.Path.{_≡_};
 ghost use Prim.Native.Nat.{_*_, _<_, _≤_, _+_};
 ghost use lib.ListN.{length};
 ghost use Rattle.scope.specs.Limits.{byteValues, positionLimit};
-ghost use Rattle.classes.specs.Layout.{byteSet, bitAt};
+ghost use Rattle.sets.specs.Layout.{byteSet, bitAt};
 ghost use Rattle.classes.specs.Group.{Like, Key, Below, GroupAnswer};
 ghost use Rattle.classes.specs.Runs.{Listed, RunsOf, Spread};
-use crate::BYTE_SET;
 use crate::Counted;
 use scope::Machine;
+use sets::layout::BYTE_SET;
 
 // The class of each byte value, and how many classes there are.
 pub struct Groups {

@@ -4,9 +4,6 @@ pub mod group;
 pub mod masks;
 pub mod runs;
 
-// How many bytes the byte set of a position has.
-pub const BYTE_SET: usize = 32;
-
 // How many there are, or that there are more than the limit.
 pub enum Counted {
     Few(usize),

@@ -4,7 +4,7 @@ ghost use Prim.Native.Nat.{ℕ, _*_, _<_, _≤_};
 ghost use lib.ListN.{length};
 ghost use Rattle.scope.specs.Limits.{byteValues, positionLimit};
 ghost use Rattle.sets.specs.Value.{value};
-ghost use Rattle.classes.specs.Layout.{byteSet};
+ghost use Rattle.sets.specs.Layout.{byteSet};
 ghost use Rattle.classes.specs.Group.{Like, Grouped};
 ghost use Rattle.classes.specs.Runs.{RunsOf};
 ghost use Rattle.classes.specs.Masks.{maskOf, Masked};

@@ -3,12 +3,12 @@
 ghost use Prim.Native.Nat.{_*_, _<_, _≤_, _+_};
 ghost use lib.ListN.{length};
 ghost use Rattle.scope.specs.Limits.{positionLimit};
-ghost use Rattle.classes.specs.Layout.{byteSet};
+ghost use Rattle.sets.specs.Layout.{byteSet};
 ghost use Rattle.classes.specs.Group.{Like};
 ghost use Rattle.classes.specs.Runs.{Noted, Joined, RunsOf};
-use crate::BYTE_SET;
 use crate::group;
 use scope::Machine;
+use sets::layout::BYTE_SET;
 
 const LAST_BYTE: usize = Machine::BYTES - 1;
 

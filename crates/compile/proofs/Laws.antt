@@ -6,7 +6,7 @@
 --   answered: what building leaves in the scratch is within it
 --   recognised: a canonical machine of the image's strings has the words of the tree
 --   refused, told: a refusal touches nothing; what the judge's answer means for compiling
-use Prim.Native.Nat.{ℕ, zero, suc, _-_, _*_, _≤_}
+use Prim.Native.Nat.{ℕ, zero, suc, _-_, _≤_}
 use mathlib.Core.Path.{_≡_, refl, sym, subst, _∙_}
 use mathlib.Core.Bool.{Bool}
 use mathlib.Core.List.{List}
@@ -18,7 +18,7 @@ use Rattle.scope.specs.Answers.{SYNTAX, RANGE, DEPTH, POSITIONS}
 use Rattle.scope.specs.Buffers.{TailKept, Cleared}
 use Rattle.scope.specs.Canonical.{Canonical}
 use Rattle.scope.specs.Compile.{Fits, CompileRefused, Compiles, no-syntax, falls, too-deep, too-many}
-use Rattle.scope.specs.Limits.{positionLimit, setWords, scratchBytes, scratchWords}
+use Rattle.scope.specs.Limits.{positionLimit, scratchBytes, scratchWords}
 use Rattle.scope.specs.Machine.{Equal, Recognises}
 use Rattle.scope.specs.Re.{Re, Words}
 use Rattle.scope.specs.Room.{machine}
@@ -28,11 +28,10 @@ use Rattle.scope.proofs.Buffers.{tail-then, tail-within}
 use Rattle.slices.proofs.Laws.{all-kept, part-all}
 use Rattle.sets.specs.Value.{value, setAt, Put}
 use Rattle.sets.proofs.Words.{put-other}
-use Rattle.pattern.specs.Held.{held}
 use Rattle.pattern.specs.Reading.{Judged as Legal, Clear, Shaped, Reading}
 use Rattle.pattern.specs.declared.Shape.{Shape}
 use Rattle.pattern.proofs.Whole.{places-size}
-use Rattle.determinise.specs.Layout.{imageAt, setsAt}
+use Rattle.sets.specs.Layout.{byteSets, imageAt, wordSets}
 use Rattle.determinise.specs.Build.{Given, Made, Outcome, Builds}
 use Rattle.determinise.specs.declared.Built.{Built}
 use Rattle.judge.specs.declared.Judged.{Judged}
@@ -46,11 +45,11 @@ clear-filled n h s = record { long = omega (arith, s .size); zero = λ i k. s .i
 -- First is the set number 0
 given : {e : Re} {y y′ w w′ w″ : List ℕ} {r : Shape} → r .size ≤ positionLimit → Shaped e y y′ w w′ r → Put w′ w″ 0 (value (r .first .words))
     → Given e y′ w″ (r .size) (value (r .last .words)) (r .null)
-unfolding held bits.after
+unfolding bits.after
 given {e} {w′ = w′} {w″} {r} few s p = record {
   positions = sym (s .sizes);
   follow = follow;
-  held = λ q b h k. s .holds q b (omega arith) k;
+  holds = λ q b h k. s .holds q b (omega arith) k;
   ends = s .lasts;
   empty = s .nulls;
 }
@@ -61,7 +60,7 @@ given {e} {w′ = w′} {w″} {r} few s p = record {
 
 -- the sets of the text's tree are what building is given
 pub reads :
-    {s b b₁ b′ w w₁ w₂ w′ : List ℕ} {r : Shape} → Legal s → Stored b b₁ 0 imageAt (λ i. 0) → Stored w w₁ 0 (setsAt * setWords) (λ i. 0)
+    {s b b₁ b′ w w₁ w₂ w′ : List ℕ} {r : Shape} → Legal s → Stored b b₁ 0 byteSets (λ i. 0) → Stored w w₁ 0 wordSets (λ i. 0)
     → Reading s b₁ b′ w₁ w₂ r → Put w₂ w′ 0 (value (r .first .words)) → Reads s b b′ w w′ r
 reads {b₁ = b₁} {b′} {w₁ = w₁} {w₂} {r = r} p fb fw a z = record {
   few = few;

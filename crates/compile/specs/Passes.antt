@@ -1,23 +1,23 @@
 -- What the passes leave, before the scratch is cleared.
 --   Reads s bytes bytes′ words words′ r: r, the bytes and the words are what building is given for the tree of s (of which there is one: `one-tree`)
 --   Answers text room room′ bytes bytes′ words words′ number place: once the scratch is cleared, this is what compiling answers and leaves
-use Prim.Native.Nat.{ℕ, _*_, _≤_}
+use Prim.Native.Nat.{ℕ, _≤_}
 use mathlib.Core.List.{List}
 use Rattle.scope.specs.Buffers.{TailKept, Cleared}
 use Rattle.scope.specs.Compile.{Compiles}
 use Rattle.scope.specs.Judge.{Pattern}
-use Rattle.scope.specs.Limits.{positionLimit, setWords, scratchBytes, scratchWords}
+use Rattle.scope.specs.Limits.{positionLimit, scratchBytes, scratchWords}
 use Rattle.scope.specs.Tree.{Tree, expr}
 use Rattle.sets.specs.Value.{value}
 use Rattle.pattern.specs.declared.Shape.{Shape}
-use Rattle.determinise.specs.Layout.{imageAt, setsAt}
+use Rattle.sets.specs.Layout.{byteSets, wordSets}
 use Rattle.determinise.specs.Build.{Given}
 
 pub record Reads (s bytes bytes′ words words′ : List ℕ) (r : Shape) : Type 0 where
   pub few : r .size ≤ positionLimit
   pub given : (t : Tree) → Pattern s t → Given (expr t) bytes′ words′ (r .size) (value (r .last .words)) (r .null)
-  pub bytes-kept : TailKept imageAt bytes bytes′
-  pub words-kept : TailKept (setsAt * setWords) words words′
+  pub bytes-kept : TailKept byteSets bytes bytes′
+  pub words-kept : TailKept wordSets words words′
 
 pub record Answers (text room room′ bytes bytes′ words words′ : List ℕ) (number place : ℕ) : Type 0 where
   pub bytes-kept : TailKept scratchBytes bytes bytes′

@@ -4,22 +4,20 @@ use judge::Judged;
 use pattern::Shape;
 use scope::Compiled;
 use scope::Machine;
+use sets::layout;
 ghost use Rattle.scope.specs.Answers.{compiledNumber, compiledPlace};
 ghost use Rattle.scope.specs.Buffers.{Scratch, Lent};
 ghost use Rattle.scope.specs.Compile.{Compiles};
 ghost use Rattle.pattern.specs.Reading.{Judged as Legal};
 ghost use Rattle.compile.specs.Passes.{Reads, Answers};
 
-// How many words the sets of all positions have.
-const WORD_SETS: usize = determinise::SETS_AT * Machine::SET_WORDS;
-
 // Reads a text that was judged legal: its sets come into the scratch, First as what follows the start.
 fn read(text: &[u8], bytes: &mut [u8], words: &mut [u64]) -> Shape
     requires { ⌜ Legal (now text) × Scratch (now bytes) (now words) ⌝ }
     ensures { λ r. ⌜ Reads (now (text .entry)) (now (bytes .entry)) (now (bytes .exit)) (now (words .entry)) (now (words .exit)) r ⌝ }
 {
-    slices::fill(bytes, 0, determinise::IMAGE_AT, 0);
-    slices::fill_words(words, 0, WORD_SETS, 0);
+    slices::fill(bytes, 0, layout::IMAGE_AT, 0);
+    slices::fill_words(words, 0, layout::WORD_SETS, 0);
     let shape = pattern::read(text, bytes, words);
     let first = shape.first;
     sets::store(words, 0, first);
@@ -36,7 +34,7 @@ fn build(text: &[u8], room: &mut [u8], bytes: &mut [u8], words: &mut [u64]) -> C
     let built = determinise::build(bytes, words, shape.size, last, shape.null);
     match built {
         Built::Done => {
-            smallest::smallest(&bytes[determinise::IMAGE_AT..], room);
+            smallest::smallest(&bytes[layout::IMAGE_AT..], room);
             Compiled::Done
         }
         Built::Classes => Compiled::Classes,

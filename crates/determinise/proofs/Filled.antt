@@ -25,7 +25,8 @@ use Rattle.sets.specs.Value.{setBits, setAt}
 use Rattle.classes.specs.declared.Counted.{Counted}
 use Rattle.classes.specs.declared.Counted.the-variants.{Few, Many}
 use Rattle.classes.proofs.Unions.{joined-skip, joined-same}
-use Rattle.determinise.specs.Layout.{setsAt, setOf, Kept}
+use Rattle.sets.specs.Layout.{setsAt}
+use Rattle.determinise.specs.Layout.{setOf, Kept}
 use Rattle.determinise.specs.Reach.{followOf, follows, cellAt, Rows, Fits, Row, RowCase, RowAnswer, SetsOf, RowsCase, RowsAnswer}
 use Rattle.determinise.proofs.Kept.{kept-none, kept-wide, kept-join, kept-sets}
 use Rattle.determinise.proofs.Rows.{row-fits}
@@ -47,8 +48,8 @@ reached-inside e s r = rw (r .leads) at (walk-inside e (r .word) 1 (λ p x. omeg
 union-of : (e : Re) (w : List ℕ) (s : ℕ) → size e ≤ positionLimit → ((p : ℕ) → p ≤ size e → setAt w p ≡ after e p) → ReachedSet e s
     → joined (followOf w s) setBits ≡ follows e s
 union-of e w s small follow r =
-    let l : setBits ≡ size e + 1 + (positionLimit - size e) = omega arith in
-    rw l (joined-skip (followOf w s) (size e + 1) (positionLimit - size e) (λ j h. outside (size e + 1 + j) (omega arith) (which (has s (size e + 1 + j)))))
+    let l : setBits ≡ size e + 1 + (setBits - (size e + 1)) = omega arith in
+    rw l (joined-skip (followOf w s) (size e + 1) (setBits - (size e + 1)) (λ j h. outside (size e + 1 + j) (omega arith) (which (has s (size e + 1 + j)))))
     ∙ joined-same (followOf w s) (λ p. given (has s p) (after e p)) (size e + 1) (λ p h. ap (given (has s p)) (follow p (omega arith)))
   where
     outside : (p : ℕ) → size e < p → (has s p ≡ true) ⊎ (has s p ≡ false) → followOf w s p ≡ 0

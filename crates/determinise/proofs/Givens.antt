@@ -10,11 +10,9 @@ use mathlib.Core.Path.{_≡_, sym, ap, subst, _∙_}
 use mathlib.Core.Bool.{Bool, true}
 use mathlib.Core.List.{List, _++_, append-nil}
 use mathlib.Core.Logic.{_↔_}
-use native.Mathlib.Nat.{mod-lt}
 use native.Mathlib.Omega.{arith}
 use borrow.Rule.Slice.PartMut.{putMid, postOf, same-len-mid}
 use lib.Bits.{bitOr}
-use lib.Dec.{lit<}
 use lib.ListN.{length, getD, take, drop, length-drop}
 use lib.Seq.{length-take-le, drop-at, drop-length, getD-drop}
 use Rattle.scope.specs.Limits.{byteValues, classLimit, positionLimit, roomBytes}
@@ -27,10 +25,11 @@ use Rattle.scope.specs.Tests.{Tests}
 use Rattle.scope.proofs.Bits.{holders-is, has-given, has-pow}
 use Rattle.scope.proofs.Glushkov.{at-in}
 use Rattle.scope.proofs.Moves.{same-bits, joined-is}
-use Rattle.scope.proofs.Tests.{and, itself, equals, same-test, bit-same}
+use Rattle.scope.proofs.Tests.{and, itself, equals, same-test}
 use Rattle.scope.proofs.Buffers.{all-kept}
 use Rattle.slices.proofs.Laws.{part-all}
-use Rattle.classes.specs.Layout.{bitAt, holds}
+use Rattle.sets.specs.Layout.{held, imageAt}
+use Rattle.sets.proofs.Held.{bits-same}
 use Rattle.classes.specs.Group.{Like, Grouped, GroupAnswer}
 use Rattle.classes.specs.Masks.{maskOf, Masked}
 use Rattle.classes.specs.declared.Counted.{Counted}
@@ -38,7 +37,6 @@ use Rattle.classes.specs.declared.Counted.the-variants.{Few, Many}
 use Rattle.classes.proofs.Count.{within-all}
 use Rattle.classes.proofs.Classes.{class-below, class-used}
 use Rattle.classes.proofs.Masking.{mask-like}
-use Rattle.determinise.specs.Layout.{imageAt}
 use Rattle.determinise.specs.Image.{Mapped, DescribedBy, ImageCase, ImageAnswer}
 use Rattle.determinise.specs.Build.{Given, Outcome, Builds}
 use Rattle.determinise.specs.declared.Built.{Built}
@@ -49,25 +47,24 @@ module _ (e : Re) (bytes words : List ℕ) (count last : ℕ) (null : Bool) (g :
   pub mask-holders : (b : ℕ) → b < byteValues → maskOf bytes b count ≡ holders e 0 b
   mask-holders b l = same-bits (maskOf bytes b count) (holders e 0 b) (λ q. same-test _ _ (there q) (back q))
     where
-      one : (p q : ℕ) → Tests (has (given (holds bytes p b) (2 ^ (p + 1))) q) ((holds bytes p b ≡ true) × (q ≡ p + 1))
-      one p q = rw (has-given, has-pow) (and (itself (holds bytes p b)) (equals (p + 1) q))
+      one : (p q : ℕ) → Tests (has (given (held bytes p b) (2 ^ (p + 1))) q) ((held bytes p b ≡ true) × (q ≡ p + 1))
+      one p q = rw (has-given, has-pow) (and (itself (held bytes p b)) (equals (p + 1) q))
 
       there : (q : ℕ) → has (maskOf bytes b count) q ≡ true → has (holders e 0 b) q ≡ true
-      there q x = let (p, h, y) = joined-is _ count q .sound x in let (t, z) = one p q .sound y in rw z (sym (g .held p b h l) ∙ t)
+      there q x = let (p, h, y) = joined-is _ count q .sound x in let (t, z) = one p q .sound y in rw z (sym (g .holds p b h l) ∙ t)
 
       back : (q : ℕ) → has (holders e 0 b) q ≡ true → has (maskOf bytes b count) q ≡ true
       back q x =
           let i = at-in e 0 q b (holders-is e 0 q b .sound x) in
           let z : q ≡ q - 1 + 1 = omega arith in
           let h : q - 1 < count = omega (arith, g .positions) in
-          joined-is _ count q .full (q - 1, h, one (q - 1) q .full (g .held (q - 1) b h l ∙ rw (← z) x, z))
+          joined-is _ count q .full (q - 1, h, one (q - 1) q .full (g .holds (q - 1) b h l ∙ rw (← z) x, z))
 
   -- "every position holds both or neither"
   pub like-share : (a b : ℕ) → a < byteValues → b < byteValues → Like bytes count a b ↔ Share e a b
   like-share a b h l = (
     λ x. sym (mask-holders a h) ∙ mask-like bytes count a b x ∙ mask-holders b l,
-    λ x p k. bit-same (bitAt bytes p a) (bitAt bytes p b) (mod-lt _ (lit< tt)) (mod-lt _ (lit< tt))
-        (g .held p a k h ∙ ap (λ (n : ℕ). has n (p + 1)) x ∙ sym (g .held p b k l)),
+    λ x p k. bits-same bytes p a b (g .holds p a k h ∙ ap (λ (n : ℕ). has n (p + 1)) x ∙ sym (g .holds p b k l)),
   )
 
   -- 65 bytes that differ

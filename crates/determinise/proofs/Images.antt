@@ -25,7 +25,8 @@ use Rattle.scope.proofs.Run.{run-below, sound-closed}
 use Rattle.sets.specs.Value.{setAt, Put}
 use Rattle.classes.specs.declared.Counted.{Counted}
 use Rattle.classes.specs.declared.Counted.the-variants.{Few, Many}
-use Rattle.determinise.specs.Layout.{setsAt, setOf}
+use Rattle.sets.specs.Layout.{setsAt}
+use Rattle.determinise.specs.Layout.{setOf}
 use Rattle.determinise.specs.Reach.{follows, cellAt, Rows, Fits, SetsOf, RowsCase, RowsAnswer}
 use Rattle.determinise.specs.Image.{markBy, Headed, Stated, Mapped, DescribedBy, ImageAnswer}
 use Rattle.determinise.specs.declared.Built.the-variants.{Done, States}

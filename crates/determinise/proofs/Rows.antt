@@ -25,7 +25,8 @@ use Rattle.scope.proofs.Tests.{split}
 use Rattle.sets.specs.Value.{setAt}
 use Rattle.classes.specs.declared.Counted.the-variants.{Few, Many}
 use Rattle.classes.proofs.Count.{over-one}
-use Rattle.determinise.specs.Layout.{setsAt, setOf, Kept}
+use Rattle.sets.specs.Layout.{setsAt}
+use Rattle.determinise.specs.Layout.{setOf, Kept}
 use Rattle.determinise.specs.Reach.{follows, MasksOf, cellAt, Rows, Seated, Fits, Row, RowAnswer}
 use Rattle.determinise.proofs.Kept.{kept-none, kept-wide, kept-join, kept-set, kept-sets}
 

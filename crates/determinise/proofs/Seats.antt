@@ -19,7 +19,8 @@ use Rattle.scope.specs.Limits.{stateLimit}
 use Rattle.scope.proofs.Tests.{split}
 use Rattle.sets.specs.Value.{valueAt, value, Put}
 use Rattle.sets.proofs.Words.{put-other}
-use Rattle.determinise.specs.Layout.{setsAt, setOf}
+use Rattle.sets.specs.Layout.{setsAt}
+use Rattle.determinise.specs.Layout.{setOf}
 use Rattle.determinise.specs.Reach.{guessCount, noGuess, remainderOf, Guesses, Guessed, Found, Seated}
 use Rattle.determinise.proofs.Kept.{kept-none, kept-wide, put-kept}
 

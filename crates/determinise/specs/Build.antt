@@ -16,8 +16,7 @@ use Rattle.scope.specs.Machine.{Recognises}
 use Rattle.scope.specs.Reached.{ManyClasses, FewClasses, ManySets, FewSets}
 use Rattle.scope.specs.Room.{machine, Sound}
 use Rattle.sets.specs.Value.{setAt}
-use Rattle.classes.specs.Layout.{holds}
-use Rattle.determinise.specs.Layout.{imageAt, setsAt}
+use Rattle.sets.specs.Layout.{held, imageAt, setsAt}
 use Rattle.determinise.specs.declared.Built.{Built}
 use Rattle.determinise.specs.declared.Built.the-variants.{Done, Classes, States}
 
@@ -26,7 +25,7 @@ pub record Given (e : Re) (bytes words : List ℕ) (count last : ℕ) (null : Bo
   -- the set number p is where the position p leads; that of 0, the state at the start, is First
   pub follow : (p : ℕ) → p ≤ count → setAt words p ≡ bits.after e p
   -- the byte set number p has the bytes of the position p + 1
-  pub held : (p b : ℕ) → p < count → b < byteValues → holds bytes p b ≡ bits.has (bits.holders e 0 b) (p + 1)
+  pub holds : (p b : ℕ) → p < count → b < byteValues → held bytes p b ≡ bits.has (bits.holders e 0 b) (p + 1)
   pub ends : last ≡ bits.last e 0
   pub empty : null ≡ bits.null e
 

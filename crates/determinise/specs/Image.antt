@@ -21,7 +21,7 @@ use Rattle.scope.specs.Machine.{Recognises}
 use Rattle.scope.specs.Reached.{ManySets, FewSets}
 use Rattle.scope.specs.Room.{statesOf, classesOf, classOf, markOf, machine, Sound}
 use Rattle.sets.specs.Value.{setAt}
-use Rattle.determinise.specs.Layout.{setsAt}
+use Rattle.sets.specs.Layout.{setsAt}
 use Rattle.determinise.specs.declared.Built.{Built}
 use Rattle.determinise.specs.declared.Built.the-variants.{Done, Classes, States}
 

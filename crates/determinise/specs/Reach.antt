@@ -27,7 +27,8 @@ use Rattle.scope.specs.Reached.{ReachedSet, ManySets}
 use Rattle.sets.specs.Value.{setAt}
 use Rattle.classes.specs.declared.Counted.{Counted}
 use Rattle.classes.specs.declared.Counted.the-variants.{Few, Many}
-use Rattle.determinise.specs.Layout.{setsAt, setOf, Kept}
+use Rattle.sets.specs.Layout.{setsAt}
+use Rattle.determinise.specs.Layout.{setOf, Kept}
 
 abbrev pub followOf : List ℕ → ℕ → ℕ → ℕ
 followOf w s p = given (has s p) (setAt w p)

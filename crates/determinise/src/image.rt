@@ -5,15 +5,16 @@ ghost use lib.ListN.{length};
 ghost use Rattle.scope.specs.Limits.{classLimit, stateLimit, marksAt, roomBytes, setWords};
 ghost use Rattle.slices.specs.Parts.{Stored};
 ghost use Rattle.sets.specs.Value.{value};
-ghost use Rattle.determinise.specs.Layout.{setsAt, setOf};
+ghost use Rattle.sets.specs.Layout.{setsAt};
+ghost use Rattle.determinise.specs.Layout.{setOf};
 ghost use Rattle.determinise.specs.Reach.{Fits};
 ghost use Rattle.determinise.specs.Image.{markBy, Headed, Stated, Mapped, ImageAnswer};
 use crate::Built;
-use crate::SETS_AT;
 use crate::reach;
 use classes::Counted;
 use scope::Machine;
 use sets::Set;
+use sets::layout::SETS_AT;
 
 // Writes k and the classes, and zeros after them.
 fn write_head(image: &mut [u8], map: [u8; Machine::BYTES], k: usize)

@@ -9,17 +9,11 @@ ghost use Rattle.scope.specs.Limits.{positionLimit};
 ghost use Rattle.sets.specs.Value.{value};
 ghost use Rattle.determinise.specs.Build.{Builds};
 use classes::Counted;
-use scope::Machine;
 use sets::Set;
+use sets::layout::IMAGE_AT;
 
 mod image;
 mod reach;
-
-// The bytes hold the byte set of each position, then the image.
-pub const IMAGE_AT: usize = Machine::POSITIONS * classes::BYTE_SET;
-
-// The words hold First and the follow set of each position, then the reached sets.
-pub const SETS_AT: usize = Machine::POSITIONS + 1;
 
 // What building answers.
 pub enum Built {

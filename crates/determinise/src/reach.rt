@@ -7,12 +7,13 @@ ghost use lib.ListN.{length};
 ghost use Rattle.scope.specs.Limits.{stateLimit, setWords};
 ghost use Rattle.scope.specs.Bits.{joined};
 ghost use Rattle.sets.specs.Value.{setBits, value};
-ghost use Rattle.determinise.specs.Layout.{setsAt, setOf};
+ghost use Rattle.sets.specs.Layout.{setsAt};
+ghost use Rattle.determinise.specs.Layout.{setOf};
 ghost use Rattle.determinise.specs.Reach.{followOf, WordAnswer, noGuess, remainderOf, Guesses, Guessed, GuessesFor, Found, Seated, Fits, RowAnswer, RowsAnswer};
-use crate::SETS_AT;
 use classes::Counted;
 use scope::Machine;
 use sets::Set;
+use sets::layout::SETS_AT;
 
 // `others` with the follow sets of the positions of one word of a set: the word number w, with the bits x. What is not in the set is passed over by a shift.
 fn follows_word(words: &[u64], w: usize, x: u64, others: Set) -> Set

@@ -27,7 +27,8 @@ use Rattle.scope.specs.Tests.{Tests}
 use Rattle.scope.proofs.Bits.{has-or, has-half, has-ones, has-small}
 use Rattle.scope.proofs.Tests.{split, same-test, never, or, and, itself, equals, at-most}
 use Rattle.scope.proofs.Buffers.{all-kept, tail-then}
-use Rattle.pattern.specs.Held.{byteSet, byteSets, held, Marked}
+use Rattle.sets.specs.Layout.{byteSet, byteSets, held}
+use Rattle.pattern.specs.Held.{Marked}
 
 pub record Left (k : ℕ) (s r : ByteSet) (m m′ : List ℕ) : Type 0 where
   pub kept : TailKept byteSets m m′
@@ -111,7 +112,7 @@ has-range (suc s) (suc t) (suc n) h =
 -- ---- bits stored
 
 -- the same place: the same set and the same byte
-meets : (q k b c n : ℕ) → b < 256 → n < 256 → c / 8 ≡ b / 8 → q * 32 + n / 8 ≡ k * 32 + b / 8 → between (b % 8) (c % 8) (n % 8) ≡ (eqb q k && between b c n)
+meets : (q k b c n : ℕ) → b < 256 → n < 256 → c / 8 ≡ b / 8 → q * byteSet + n / 8 ≡ k * byteSet + b / 8 → between (b % 8) (c % 8) (n % 8) ≡ (eqb q k && between b c n)
 meets q k b c n h l g e =
     same
     (between-is (b % 8) (c % 8) (n % 8))
@@ -120,7 +121,7 @@ meets q k b c n h l g e =
     (λ x. (omega (arith, x .1 .0), omega (arith, x .1 .1)))
 
 -- another place: another set or another byte
-misses : (q k b c n : ℕ) → c / 8 ≡ b / 8 → (q * 32 + n / 8 ≡ k * 32 + b / 8 → ⊥) → (eqb q k && between b c n) ≡ false
+misses : (q k b c n : ℕ) → c / 8 ≡ b / 8 → (q * byteSet + n / 8 ≡ k * byteSet + b / 8 → ⊥) → (eqb q k && between b c n) ≡ false
 misses q k b c n g ne = same (and (equals q k) (between-is b c n)) (never (λ x. x)) (λ x. ne (omega (arith, x .0, x .1 .0, x .1 .1))) (λ x. absurd x)
 
 -- the bits of the bytes b to c, which lie in one byte, were stored
@@ -128,16 +129,16 @@ pub mark-range : (k b c v : ℕ) (m : List ℕ) → k < positionLimit → byteSe
     → Marked k (between b c) m (set m (k * byteSet + b / 8) (bitOr (getD m (k * byteSet + b / 8) 0) v))
 unfolding held
 mark-range k b c v m h l hb g ev = record {
-  kept = record { size = simp length-set; outside = λ i z. getD-set-other m (k * 32 + b / 8) i _ 0 (λ e. omega arith) };
-  bits = λ q n hn. at q n hn (ℕ-discrete (q * 32 + n / 8) (k * 32 + b / 8));
+  kept = record { size = simp length-set; outside = λ i z. getD-set-other m (k * byteSet + b / 8) i _ 0 (λ e. omega arith) };
+  bits = λ q n hn. at q n hn (ℕ-discrete (q * byteSet + n / 8) (k * byteSet + b / 8));
 }
   where
-    at : (q n : ℕ) → n < 256 → Dec (q * 32 + n / 8 ≡ k * 32 + b / 8)
-        → has (getD (set m (k * 32 + b / 8) (bitOr (getD m (k * 32 + b / 8) 0) v)) (q * 32 + n / 8) 0) (n % 8) ≡ (has (getD m (q * 32 + n / 8) 0) (n % 8) || (eqb q k && between b c n))
+    at : (q n : ℕ) → n < 256 → Dec (q * byteSet + n / 8 ≡ k * byteSet + b / 8)
+        → has (getD (set m (k * byteSet + b / 8) (bitOr (getD m (k * byteSet + b / 8) 0) v)) (q * byteSet + n / 8) 0) (n % 8) ≡ (has (getD m (q * byteSet + n / 8) 0) (n % 8) || (eqb q k && between b c n))
     at q n hn (yes e) =
-        rw e (ap (λ (x : ℕ). has x (n % 8)) (getD-set-same m (k * 32 + b / 8) _ 0 (omega arith)) ∙ has-or (getD m (k * 32 + b / 8) 0) v (n % 8))
+        rw e (ap (λ (x : ℕ). has x (n % 8)) (getD-set-same m (k * byteSet + b / 8) _ 0 (omega arith)) ∙ has-or (getD m (k * byteSet + b / 8) 0) v (n % 8))
         ∙ ap₂ (λ (x : ℕ) (y : Bool). has (getD m x 0) (n % 8) || y) (sym e) (ev (n % 8) ∙ meets q k b c n hb hn g e)
-    at q n hn (no ne) = ap (λ (x : ℕ). has x (n % 8)) (getD-set-other m (k * 32 + b / 8) (q * 32 + n / 8) _ 0 ne) ∙ sym (or-false _) ∙ ap (λ (y : Bool). has (getD m (q * 32 + n / 8) 0) (n % 8) || y) (sym (misses q k b c n g ne))
+    at q n hn (no ne) = ap (λ (x : ℕ). has x (n % 8)) (getD-set-other m (k * byteSet + b / 8) (q * byteSet + n / 8) _ 0 ne) ∙ sym (or-false _) ∙ ap (λ (y : Bool). has (getD m (q * byteSet + n / 8) 0) (n % 8) || y) (sym (misses q k b c n g ne))
 
 -- ---- another name
 

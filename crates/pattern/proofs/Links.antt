@@ -17,7 +17,8 @@ use Rattle.scope.proofs.Tests.{split, not-below}
 use Rattle.scope.proofs.Buffers.{all-kept, tail-then}
 use Rattle.sets.specs.Value.{setBits, setAt, Put}
 use Rattle.sets.proofs.Words.{put-other}
-use Rattle.pattern.specs.Right.{wordSets, Linked}
+use Rattle.sets.specs.Layout.{wordSets}
+use Rattle.pattern.specs.Right.{Linked}
 
 pub record Linking (p last first : ℕ) (m m′ : List ℕ) : Type 0 where
   pub kept : TailKept wordSets m m′

@@ -22,7 +22,8 @@ use Rattle.scope.proofs.Grammar.{other}
 use Rattle.sets.specs.Value.{setBits, value}
 use Rattle.pattern.specs.declared.shapes.Part.{Part}
 use Rattle.pattern.specs.Tails.{closes, stops, Ends, Whole, Tail, done, a-star, a-factor, a-branch}
-use Rattle.pattern.specs.Right.{wordSets, Linked, Beside, Either, Moved}
+use Rattle.sets.specs.Layout.{wordSets}
+use Rattle.pattern.specs.Right.{Linked, Beside, Either, Moved}
 use Rattle.pattern.specs.Answer.{Fit, Ready, Found, Answer, Going, Carried, Starred}
 use Rattle.pattern.proofs.Grammar.{inside, not-stop}
 use Rattle.pattern.proofs.Rights.{right-within, right-star, right-beside, right-either}

@@ -21,9 +21,8 @@ use Rattle.sets.specs.Value.{value}
 use Rattle.sets.proofs.Words.{set-none}
 use Rattle.pattern.specs.declared.Shape.{Shape}
 use Rattle.pattern.specs.declared.shapes.Part.{Part}
-use Rattle.pattern.specs.Held.{byteSets, held}
+use Rattle.sets.specs.Layout.{byteSet, byteSets, held, wordSets}
 use Rattle.pattern.specs.Tails.{closes, Whole}
-use Rattle.pattern.specs.Right.{wordSets}
 use Rattle.pattern.specs.Answer.{Ready, Answer}
 use Rattle.pattern.specs.Reading.{Judged, Clear, Reading}
 use Rattle.pattern.proofs.Tails.{ready}
@@ -58,7 +57,7 @@ reading {s} {y} {w = w} cy cw a es en ef el = record {
         firsts = ef ∙ x .firsts;
         lasts = el ∙ x .lasts;
         follows = λ p k. x .follows .sets p ∙ ap (λ (n : ℕ). bitOr n (follow (expr t) 0 p)) (set-none w p (λ i l. cw .zero (p * setWords + i) (omega arith))) ∙ or-zero-l (follow (expr t) 0 p);
-        holds = λ q b k l. x .holds .bits q b l ∙ ap (λ (n : ℕ). has n (b % 8) || has (holders (expr t) 0 b) (q + 1)) (cy .zero (q * 32 + b / 8) (omega arith)) ∙ rw has-zero refl;
+        holds = λ q b k l. x .holds .bits q b l ∙ ap (λ (n : ℕ). has n (b % 8) || has (holders (expr t) 0 b) (q + 1)) (cy .zero (q * byteSet + b / 8) (omega arith)) ∙ rw has-zero refl;
         words-kept = x .follows .kept;
         bytes-kept = x .holds .kept;
       };

@@ -20,9 +20,9 @@ use Rattle.scope.specs.Re.{size}
 use Rattle.scope.specs.Tree.{Tree, expr}
 use Rattle.sets.specs.Value.{setBits, value}
 use Rattle.pattern.specs.declared.shapes.Part.{Part}
-use Rattle.pattern.specs.Held.{byteSets}
+use Rattle.sets.specs.Layout.{byteSets, wordSets}
 use Rattle.pattern.specs.Tails.{Ends, Whole, Tail}
-use Rattle.pattern.specs.Right.{wordSets, Right}
+use Rattle.pattern.specs.Right.{Right}
 
 pub record Ready (l : Level) (k : ℕ) (s : List ℕ) (i : ℕ) : Type 0 where
   pub short : length s ≤ patternLimit

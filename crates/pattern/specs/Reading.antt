@@ -16,8 +16,7 @@ use Rattle.scope.specs.Re.{Re, size}
 use Rattle.scope.specs.Tree.{Tree, expr}
 use Rattle.sets.specs.Value.{setBits, value, setAt}
 use Rattle.pattern.specs.declared.Shape.{Shape}
-use Rattle.pattern.specs.Held.{byteSets, held}
-use Rattle.pattern.specs.Right.{wordSets}
+use Rattle.sets.specs.Layout.{byteSets, held, wordSets}
 
 pub record Judged (s : List ℕ) : Type 0 where
   pub short : length s ≤ patternLimit

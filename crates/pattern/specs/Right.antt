@@ -1,25 +1,21 @@
 -- What a reader keeps of an expression that has k positions to its left: a part by value, the sets that follow its positions in the words, the bytes that they
 -- hold in the bytes.
---   wordSets: how many words the sets of all positions have
 --   Linked last first m m′: the set `first` came into the set of each position of `last`
 --   Follows e k m m′, Holds e k m m′: what follows each position of e, and the bytes that each holds, came in
 --   Right e k y y′ w w′ g: the part g is right for e, with the bytes y and the words w before it, y′ and w′ after it
 --   Alone, Blank, Beside, Either, Moved: the parts that a position, no position, two parts side by side, one or the other, and a part read further are
-use Prim.Native.Nat.{ℕ, _+_, _*_, _^_, _<_}
+use Prim.Native.Nat.{ℕ, _+_, _^_, _<_}
 use mathlib.Core.Path.{_≡_}
 use mathlib.Core.Bool.{Bool, false, _&&_, _||_}
 use mathlib.Core.List.{List}
 use lib.Bits.{bitOr}
 use Rattle.scope.specs.Bits.{has, given, null, first, last, follow, holders}
 use Rattle.scope.specs.Buffers.{TailKept}
-use Rattle.scope.specs.Limits.{byteValues, setWords}
+use Rattle.scope.specs.Limits.{byteValues}
 use Rattle.scope.specs.Re.{Re, size}
-use Rattle.sets.specs.Value.{setBits, value, setAt}
+use Rattle.sets.specs.Value.{value, setAt}
 use Rattle.pattern.specs.declared.shapes.Part.{Part}
-use Rattle.pattern.specs.Held.{byteSets, held}
-
-abbrev pub wordSets : ℕ
-wordSets = setBits * setWords
+use Rattle.sets.specs.Layout.{byteSets, held, wordSets}
 
 pub record Linked (last first : ℕ) (m m′ : List ℕ) : Type 0 where
   pub kept : TailKept wordSets m m′

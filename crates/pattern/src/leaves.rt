@@ -8,7 +8,8 @@ ghost use Rattle.scope.specs.Bytes.{byte, between};
 ghost use Rattle.scope.specs.Grammar.{atoms, Single};
 ghost use Rattle.scope.specs.Limits.{byteValues, positionLimit};
 ghost use Rattle.scope.specs.Tree.{itemSet, itemsSet, setOf};
-ghost use Rattle.pattern.specs.Held.{byteSets, Marked};
+ghost use Rattle.sets.specs.Layout.{byteSets};
+ghost use Rattle.pattern.specs.Held.{Marked};
 ghost use Rattle.pattern.specs.Answer.{Ready, Answer};
 ghost use Rattle.pattern.specs.Parts.{Some, WholeItem, WholeItems, Took};
 use crate::shapes::Part;
@@ -25,9 +26,7 @@ use crate::text::byte_at;
 use crate::text::class_byte;
 use crate::text::escape;
 use crate::text::escaped;
-
-// How many bytes a set of bytes has.
-const BYTE_SET: usize = 32;
+use sets::layout::BYTE_SET;
 
 // The byte that has the bits from first to last.
 fn bits(first: usize, last: usize) -> u8

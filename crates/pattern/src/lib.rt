@@ -4,8 +4,7 @@ mod readers;
 mod shapes;
 mod text;
 
-ghost use Rattle.pattern.specs.Held.{byteSets};
-ghost use Rattle.pattern.specs.Right.{wordSets};
+ghost use Rattle.sets.specs.Layout.{byteSets, wordSets};
 ghost use Rattle.pattern.specs.Reading.{Judged, Clear, Reading};
 use sets::Set;
 

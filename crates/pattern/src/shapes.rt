@@ -6,7 +6,8 @@ ghost use lib.ListN.{length};
 ghost use Rattle.scope.specs.Bits.{has, given};
 ghost use Rattle.scope.specs.Limits.{positionLimit};
 ghost use Rattle.sets.specs.Value.{setBits, value};
-ghost use Rattle.pattern.specs.Right.{wordSets, Linked, Alone, Blank, Beside, Either, Moved};
+ghost use Rattle.sets.specs.Layout.{wordSets};
+ghost use Rattle.pattern.specs.Right.{Linked, Alone, Blank, Beside, Either, Moved};
 use sets::Set;
 
 // A part that was read: the place after it, the number of positions up to there, and its sets.

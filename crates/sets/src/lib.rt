@@ -10,6 +10,8 @@ ghost use Rattle.scope.specs.Limits.{setWords};
 ghost use Rattle.sets.specs.Value.{setBits, value, setAt, Put};
 use scope::Machine;
 
+pub mod layout;
+
 // A set of positions.
 pub struct Set {
     pub words: [u64; Machine::SET_WORDS],

@@ -1,15 +1,13 @@
 -- Scratch is made zero, the text is read into it, and First is put where the start looks.
-use Prim.Native.Nat.{_*_}
 use native.Mathlib.Omega.{arith}
 use borrow.Author.Needs.{needs}
-use Rattle.scope.specs.Limits.{setWords}
-use Rattle.determinise.specs.Layout.{imageAt, setsAt}
+use Rattle.sets.specs.Layout.{byteSets, wordSets}
 use Rattle.compile.proofs.Laws.{clear-filled, reads}
 use Rattle.compile.proofs.read.Statement.{statement}
 use Rattle.compile.proofs.read.Tie as tie
 
 read-requires : tie.Need-read-requires
-read-requires c κs = (c .before .before .before .before .before .before .before .before .before .before .before .before .before .pre .0, (clear-filled imageAt (omega (arith, c .before .before .before .before .before .before .before .before .before .before .before .before .before .pre .1 .bytes-long)) (c .before .before .before .before .before .before .before .before .fill .ensures), clear-filled (setsAt * setWords) (omega (arith, c .before .before .before .before .before .before .before .before .before .before .before .before .before .pre .1 .words-long)) (c .before .before .before .before .fill-words .ensures)))
+read-requires c κs = (c .before .before .before .before .before .before .before .before .before .before .before .before .before .pre .0, (clear-filled byteSets (omega (arith, c .before .before .before .before .before .before .before .before .before .before .before .before .before .pre .1 .bytes-long)) (c .before .before .before .before .before .before .before .before .fill .ensures), clear-filled wordSets (omega (arith, c .before .before .before .before .before .before .before .before .before .before .before .before .before .pre .1 .words-long)) (c .before .before .before .before .fill-words .ensures)))
 
 returns : tie.Need-returns
 returns c = reads (c .before .before .before .before .before .before .before .before .before .before .before .before .before .before .before .before .before .before .before .before .before .before .before .pre .0) (c .before .before .before .before .before .before .before .before .before .before .before .before .before .before .before .before .before .before .fill .ensures) (c .before .before .before .before .before .before .before .before .before .before .before .before .before .before .fill-words .ensures) (c .before .before .before .before .before .before .before .before .before .read .ensures) (c .before .before .store .ensures)

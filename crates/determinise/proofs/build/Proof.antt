@@ -4,7 +4,7 @@ use native.Mathlib.Omega.{arith}
 use borrow.Author.Needs.{needs}
 use Rattle.scope.specs.Limits.{byteValues, roomBytes}
 use Rattle.classes.specs.Group.{Like, Grouped, GroupAnswer}
-use Rattle.determinise.specs.Layout.{imageAt}
+use Rattle.sets.specs.Layout.{imageAt}
 use Rattle.determinise.proofs.Givens.{mapped, part-length, put-tail, built, built-classes}
 use Rattle.determinise.proofs.build.Statement.{statement}
 use Rattle.determinise.proofs.build.Tie as tie

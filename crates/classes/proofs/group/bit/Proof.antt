@@ -2,7 +2,7 @@
 use native.Mathlib.Omega.{arith}
 use borrow.Author.Needs.{needs}
 use Prim.Native.Nat.{_+_, _*_, _/_}
-use Rattle.classes.specs.Layout.{byteSet}
+use Rattle.sets.specs.Layout.{byteSet}
 use Rattle.classes.proofs.group.bit.Statement.{statement}
 use Rattle.classes.proofs.group.bit.Tie as tie
 

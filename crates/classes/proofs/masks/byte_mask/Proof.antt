@@ -5,10 +5,10 @@ use mathlib.Core.Bool.{Bool}
 use mathlib.Core.Logic.{⊎-elim}
 use native.Mathlib.Omega.{arith}
 use borrow.Author.Needs.{needs}
-use borrow.Author.Tests.{eq-eqb, ne-eqb}
 use lib.Bits.{bitOr}
 use Rattle.sets.specs.Value.{value}
-use Rattle.classes.specs.Layout.{holds}
+use Rattle.sets.specs.Layout.{held}
+use Rattle.sets.proofs.Held.{held-bit, held-not}
 use Rattle.classes.specs.Masks.{maskOf}
 use Rattle.classes.proofs.Unions.{joined-none, joined-with, joined-without}
 use Rattle.classes.proofs.masks.byte_mask.Statement.{statement}
@@ -26,11 +26,11 @@ loop-holds c = (search needs, c .none .ensures ∙ sym (joined-none _))
 loop-again : tie.Need-loop-again Inv-loop μ-loop
 loop-again c = let l = c .before .before .before .loop in
     let a = c .before .before .before .before .before .before .args in
-    let held : ℕ → Bool = λ p. holds (a .bytes .now) p (a .b) in (
+    let in-set : ℕ → Bool = λ p. held (a .bytes .now) p (a .b) in (
       search needs,
       ⊎-elim
-          (λ w. rw (w .2) (w .1 .ensures ∙ ap (λ (n : ℕ). bitOr n (2 ^ (l .p + 1))) (l .inv .1) ∙ sym (joined-with held (λ p. 2 ^ (p + 1)) (l .p) (eq-eqb _ _ (sym (c .before .bit .ensures .0) ∙ w .0 .taken)))))
-          (λ w. rw (w .1) (l .inv .1 ∙ sym (joined-without held (λ p. 2 ^ (p + 1)) (l .p) (ne-eqb _ _ (λ e. w .0 .left (c .before .bit .ensures .0 ∙ e)))))) (c .if1 .came),
+          (λ w. rw (w .2) (w .1 .ensures ∙ ap (λ (n : ℕ). bitOr n (2 ^ (l .p + 1))) (l .inv .1) ∙ sym (joined-with in-set (λ p. 2 ^ (p + 1)) (l .p) (held-bit (a .bytes .now) (l .p) (a .b) (sym (c .before .bit .ensures .0) ∙ w .0 .taken)))))
+          (λ w. rw (w .1) (l .inv .1 ∙ sym (joined-without in-set (λ p. 2 ^ (p + 1)) (l .p) (held-not (a .bytes .now) (l .p) (a .b) (λ e. w .0 .left (c .before .bit .ensures .0 ∙ e)))))) (c .if1 .came),
     )
 
 returns : tie.Need-returns Inv-loop μ-loop

@@ -4,7 +4,7 @@ use mathlib.Core.Path.{_≡_}
 use native.Mathlib.Omega.{arith}
 use borrow.Author.Needs.{needs}
 use lib.ListN.{replicate}
-use Rattle.classes.specs.Layout.{byteSet}
+use Rattle.sets.specs.Layout.{byteSet}
 use Rattle.classes.proofs.Ends.{Quiet, quiet-none, quiet-more, quiet-runs}
 use Rattle.classes.proofs.runs.find.Statement.{statement}
 use Rattle.classes.proofs.runs.find.Tie as tie

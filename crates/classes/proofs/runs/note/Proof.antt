@@ -2,7 +2,7 @@
 use Prim.Native.Nat.{_≤_, _-_, _+_, _*_}
 use native.Mathlib.Omega.{arith}
 use borrow.Author.Needs.{needs}
-use Rattle.classes.specs.Layout.{byteSet}
+use Rattle.sets.specs.Layout.{byteSet}
 use Rattle.classes.proofs.Ends.{Noting, noting-none, noting-more, noting-all}
 use Rattle.classes.proofs.runs.note.Statement.{statement}
 use Rattle.classes.proofs.runs.note.Tie as tie
