@@ -14,13 +14,14 @@ use Rattle.scope.specs.Grammar.{escapable, Single, Level, atoms, exprs, Reads, 
 use Rattle.scope.specs.Limits.{positionLimit}
 use Rattle.scope.specs.Tree.{Leaf, Tree, nothing, empty, position, group, setOf, expr}
 use Rattle.scope.proofs.Grammar.{single-on, reads-on, single-group, single-back}
-use Rattle.pattern.specs.declared.shapes.Part.{Part}
-use Rattle.pattern.specs.Parts.{Backslash, Some, Took}
+use Rattle.shapes.specs.declared.Part.{Part}
+use Rattle.leaves.specs.Parts.{Backslash, Some, Took}
 use Rattle.pattern.specs.Tails.{closes, Whole}
-use Rattle.pattern.specs.Right.{Alone, Blank, Moved}
+use Rattle.shapes.specs.Shapes.{Alone, Blank, Moved}
 use Rattle.pattern.specs.Answer.{Ready, Found, Answer}
-use Rattle.pattern.proofs.Grammar.{single-in, reads-in}
-use Rattle.pattern.proofs.Classes.{some}
+use Rattle.pattern.proofs.Grammar.{reads-in}
+use Rattle.leaves.proofs.Grammar.{single-in}
+use Rattle.leaves.proofs.Classes.{some}
 use Rattle.pattern.proofs.Rights.{right-alone, right-empty, right-nothing, right-moved}
 use Rattle.pattern.proofs.Tails.{ready}
 

@@ -19,10 +19,11 @@ use Rattle.scope.proofs.Moves.{same-bits}
 use Rattle.scope.proofs.Tests.{which, same-test, equals}
 use Rattle.scope.proofs.Buffers.{all-kept, tail-then}
 use Rattle.sets.specs.Value.{value, setAt}
-use Rattle.pattern.specs.declared.shapes.Part.{Part}
+use Rattle.shapes.specs.declared.Part.{Part}
 use Rattle.sets.specs.Layout.{byteSets, held, wordSets}
-use Rattle.pattern.specs.Held.{Marked}
-use Rattle.pattern.specs.Right.{Linked, Follows, Holds, Right, Alone, Blank, Beside, Either, Moved}
+use Rattle.leaves.specs.Held.{Marked}
+use Rattle.pattern.specs.Right.{Follows, Holds, Right}
+use Rattle.shapes.specs.Shapes.{Linked, Alone, Blank, Beside, Either, Moved}
 
 -- unions regrouped
 join-assoc : (a b c : ℕ) → bitOr (bitOr a b) c ≡ bitOr a (bitOr b c)

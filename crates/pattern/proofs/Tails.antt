@@ -17,7 +17,7 @@ use Rattle.scope.specs.Limits.{patternLimit, positionLimit}
 use Rattle.scope.specs.Re.{size}
 use Rattle.scope.specs.Tree.{Tree, starred, beside, either, expr}
 use Rattle.scope.proofs.Grammar.{other, reads-on}
-use Rattle.pattern.specs.declared.shapes.Part.{Part}
+use Rattle.shapes.specs.declared.Part.{Part}
 use Rattle.pattern.specs.Tails.{closes, stops, Whole, Tail, done, a-star, a-factor, a-branch}
 use Rattle.pattern.specs.Answer.{Ready, Answer, Going, Carried}
 use Rattle.pattern.proofs.Grammar.{reads-in, not-star}

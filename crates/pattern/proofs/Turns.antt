@@ -20,12 +20,13 @@ use Rattle.scope.specs.Tree.{Tree, starred, beside, either, expr}
 use Rattle.scope.proofs.Tests.{which}
 use Rattle.scope.proofs.Grammar.{other}
 use Rattle.sets.specs.Value.{setBits, value}
-use Rattle.pattern.specs.declared.shapes.Part.{Part}
+use Rattle.shapes.specs.declared.Part.{Part}
 use Rattle.pattern.specs.Tails.{closes, stops, Ends, Whole, Tail, done, a-star, a-factor, a-branch}
 use Rattle.sets.specs.Layout.{wordSets}
-use Rattle.pattern.specs.Right.{Linked, Beside, Either, Moved}
+use Rattle.shapes.specs.Shapes.{Linked, Beside, Either, Moved}
 use Rattle.pattern.specs.Answer.{Fit, Ready, Found, Answer, Going, Carried, Starred}
-use Rattle.pattern.proofs.Grammar.{inside, not-stop}
+use Rattle.pattern.proofs.Grammar.{not-stop}
+use Rattle.leaves.proofs.Grammar.{inside}
 use Rattle.pattern.proofs.Rights.{right-within, right-star, right-beside, right-either}
 use Rattle.pattern.proofs.Tails.{First, first-factor, tail-size, ready, begun}
 use Rattle.pattern.proofs.Atoms.{answer}

@@ -19,7 +19,7 @@ use Rattle.scope.specs.Limits.{patternLimit, positionLimit}
 use Rattle.scope.specs.Re.{size}
 use Rattle.scope.specs.Tree.{Tree, expr}
 use Rattle.sets.specs.Value.{setBits, value}
-use Rattle.pattern.specs.declared.shapes.Part.{Part}
+use Rattle.shapes.specs.declared.Part.{Part}
 use Rattle.sets.specs.Layout.{byteSets, wordSets}
 use Rattle.pattern.specs.Tails.{Ends, Whole, Tail}
 use Rattle.pattern.specs.Right.{Right}

@@ -1,25 +1,19 @@
 -- What a reader keeps of an expression that has k positions to its left: a part by value, the sets that follow its positions in the words, the bytes that they
 -- hold in the bytes.
---   Linked last first m m′: the set `first` came into the set of each position of `last`
 --   Follows e k m m′, Holds e k m m′: what follows each position of e, and the bytes that each holds, came in
 --   Right e k y y′ w w′ g: the part g is right for e, with the bytes y and the words w before it, y′ and w′ after it
---   Alone, Blank, Beside, Either, Moved: the parts that a position, no position, two parts side by side, one or the other, and a part read further are
-use Prim.Native.Nat.{ℕ, _+_, _^_, _<_}
+use Prim.Native.Nat.{ℕ, _+_, _<_}
 use mathlib.Core.Path.{_≡_}
-use mathlib.Core.Bool.{Bool, false, _&&_, _||_}
+use mathlib.Core.Bool.{_||_}
 use mathlib.Core.List.{List}
 use lib.Bits.{bitOr}
-use Rattle.scope.specs.Bits.{has, given, null, first, last, follow, holders}
+use Rattle.scope.specs.Bits.{has, null, first, last, follow, holders}
 use Rattle.scope.specs.Buffers.{TailKept}
 use Rattle.scope.specs.Limits.{byteValues}
 use Rattle.scope.specs.Re.{Re, size}
 use Rattle.sets.specs.Value.{value, setAt}
-use Rattle.pattern.specs.declared.shapes.Part.{Part}
+use Rattle.shapes.specs.declared.Part.{Part}
 use Rattle.sets.specs.Layout.{byteSets, held, wordSets}
-
-pub record Linked (last first : ℕ) (m m′ : List ℕ) : Type 0 where
-  pub kept : TailKept wordSets m m′
-  pub sets : (p : ℕ) → setAt m′ p ≡ bitOr (setAt m p) (given (has last p) first)
 
 pub record Follows (e : Re) (k : ℕ) (m m′ : List ℕ) : Type 0 where
   pub kept : TailKept wordSets m m′
@@ -36,38 +30,3 @@ pub record Right (e : Re) (k : ℕ) (y y′ w w′ : List ℕ) (g : Part) : Type
   pub lasts : value (g .last .words) ≡ last e k
   pub follows : Follows e k w w′
   pub holds : Holds e k y y′
-
-pub record Alone (next count : ℕ) (r : Part) : Type 0 where
-  pub nexts : r .next ≡ next
-  pub counts : r .count ≡ count + 1
-  pub nulls : r .null ≡ false
-  pub firsts : value (r .first .words) ≡ 2 ^ (count + 1)
-  pub lasts : value (r .last .words) ≡ 2 ^ (count + 1)
-
-pub record Blank (next count : ℕ) (null : Bool) (r : Part) : Type 0 where
-  pub nexts : r .next ≡ next
-  pub counts : r .count ≡ count
-  pub nulls : r .null ≡ null
-  pub firsts : value (r .first .words) ≡ 0
-  pub lasts : value (r .last .words) ≡ 0
-
-pub record Beside (a b r : Part) : Type 0 where
-  pub nexts : r .next ≡ b .next
-  pub counts : r .count ≡ b .count
-  pub nulls : r .null ≡ (a .null && b .null)
-  pub firsts : value (r .first .words) ≡ bitOr (value (a .first .words)) (given (a .null) (value (b .first .words)))
-  pub lasts : value (r .last .words) ≡ bitOr (value (b .last .words)) (given (b .null) (value (a .last .words)))
-
-pub record Either (a b r : Part) : Type 0 where
-  pub nexts : r .next ≡ b .next
-  pub counts : r .count ≡ b .count
-  pub nulls : r .null ≡ (a .null || b .null)
-  pub firsts : value (r .first .words) ≡ bitOr (value (a .first .words)) (value (b .first .words))
-  pub lasts : value (r .last .words) ≡ bitOr (value (a .last .words)) (value (b .last .words))
-
-pub record Moved (a : Part) (next : ℕ) (null : Bool) (r : Part) : Type 0 where
-  pub nexts : r .next ≡ next
-  pub counts : r .count ≡ a .count
-  pub nulls : r .null ≡ null
-  pub firsts : value (r .first .words) ≡ value (a .first .words)
-  pub lasts : value (r .last .words) ≡ value (a .last .words)

@@ -1,18 +1,61 @@
 // Four readers that call each other while the remaining bytes fall. Each takes what the text has at a place, and answers with its part; it requires that there is
 // something to read, so it never refuses. A judged text has at most 32 nested parentheses: at most 33 calls of each reader are open at a time.
+ghost use mathlib.Core.Bool.{not};
+ghost use mathlib.Core.List.{List};
+ghost use mathlib.Core.Path.{_≡_};
+ghost use Prim.Native.Nat.{ℕ, _≤_};
+ghost use lib.ListN.{length};
+ghost use Rattle.scope.specs.Bytes.{byte};
 ghost use Rattle.scope.specs.Grammar.{atoms, factors, branches, exprs};
+ghost use Rattle.sets.specs.Layout.{byteSets};
+ghost use Rattle.pattern.specs.Tails.{stops};
 ghost use Rattle.pattern.specs.Answer.{Fit, Ready, Rooms, Starred, Answer};
-use crate::leaves::leaf;
-use crate::shapes::Part;
-use crate::shapes::beside;
-use crate::shapes::either;
-use crate::shapes::link;
-use crate::shapes::moved;
-use crate::text::BAR;
-use crate::text::OPEN;
-use crate::text::STAR;
-use crate::text::byte_at;
-use crate::text::goes_on;
+use leaves::single;
+use leaves::text::BAR;
+use leaves::text::CLOSE;
+use leaves::text::EMPTY;
+use leaves::text::END;
+use leaves::text::NOTHING;
+use leaves::text::OPEN;
+use leaves::text::STAR;
+use leaves::text::byte_at;
+use leaves::text::escaped;
+use shapes::Part;
+use shapes::alone;
+use shapes::beside;
+use shapes::blank;
+use shapes::either;
+use shapes::link;
+use shapes::moved;
+
+// Whether a branch goes on with b.
+fn goes_on(b: usize) -> bool
+    ensures { λ r. ⌜ r ≡ not (stops b) ⌝ }
+{
+    if b == CLOSE {
+        return false;
+    }
+    if b == END {
+        return false;
+    }
+    b != BAR
+}
+
+// An atom other than one in parentheses.
+fn leaf(text: &[u8], at: usize, count: usize, bytes: &mut [u8]) -> Part
+    requires { ⌜ Ready atoms count (now text) at × (byte (now text) at ≡ 40 → ⊥) ⌝ }
+    requires { ⌜ byteSets ≤ length (now bytes) ⌝ }
+    ensures { λ r. ⌜ ((w : List ℕ) → Answer atoms (now (text .entry)) at count (now (bytes .entry)) (now (bytes .exit)) w w r) ⌝ }
+{
+    let b = escaped(text, at);
+    if b == EMPTY {
+        return blank(at + 2, count, true);
+    }
+    if b == NOTHING {
+        return blank(at + 2, count, false);
+    }
+    alone(single(text, at, count, bytes), count)
+}
 
 // The part with the stars after it.
 fn stars(text: &[u8], part: Part, words: &mut [u64]) -> Part

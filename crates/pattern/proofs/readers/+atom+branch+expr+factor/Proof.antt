@@ -30,14 +30,14 @@ use Rattle.pattern.proofs.readers.+atom+branch+expr+factor.Lts-expr as 
 use Rattle.pattern.proofs.readers.factor.Reads as factor
 use Rattle.pattern.proofs.readers.factor.Kinds as factor-kinds
 use Rattle.pattern.proofs.readers.+atom+branch+expr+factor.Lts-factor as factor-lts
-use Rattle.pattern.proofs.leaves.leaf.Reads as leaf-reads
+use Rattle.pattern.proofs.readers.leaf.Reads as leaf-reads
 use Rattle.pattern.proofs.readers.stars.Reads as stars-reads
-use Rattle.pattern.proofs.shapes.beside.Reads as beside-reads
-use Rattle.pattern.proofs.shapes.either.Reads as either-reads
-use Rattle.pattern.proofs.shapes.link.Reads as link-reads
-use Rattle.pattern.proofs.shapes.moved.Reads as moved-reads
-use Rattle.pattern.proofs.text.byte_at.Reads as byte-at-reads
-use Rattle.pattern.proofs.text.goes_on.Reads as goes-on-reads
+use Rattle.shapes.proofs.beside.Reads as beside-reads
+use Rattle.shapes.proofs.either.Reads as either-reads
+use Rattle.shapes.proofs.link.Reads as link-reads
+use Rattle.shapes.proofs.moved.Reads as moved-reads
+use Rattle.leaves.proofs.text.byte_at.Reads as byte-at-reads
+use Rattle.pattern.proofs.readers.goes_on.Reads as goes-on-reads
 use Rattle.pattern.proofs.readers.+atom+branch+expr+factor.{statement}
 use Rattle.pattern.proofs.readers.+atom+branch+expr+factor.Tie.{close}
 

@@ -7,7 +7,7 @@ use borrow.Author.Needs.{needs}
 use lib.ListN.{length}
 use Rattle.scope.specs.Grammar.{factors}
 use Rattle.pattern.specs.Answer.{Fit, Carried}
-use Rattle.pattern.proofs.Grammar.{inside}
+use Rattle.leaves.proofs.Grammar.{inside}
 use Rattle.pattern.proofs.Tails.{carried-none, carried-more}
 use Rattle.pattern.proofs.Turns.{star-fit, star-turn}
 use Rattle.pattern.proofs.readers.stars.Statement.{statement}
