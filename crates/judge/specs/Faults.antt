@@ -2,7 +2,6 @@
 --   Finds m r: r is what the places m are judged
 --   Faults x r: so it is for whatever notes the record x keeps
 use Prim.Native.Nat.{ℕ, _≤_}
-use mathlib.Core.List.{List}
 use lib.ListN.{length}
 use Rattle.scope.specs.Limits.{positionLimit}
 use Rattle.scope.specs.Judge.{Beyond}

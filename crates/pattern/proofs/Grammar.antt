@@ -1,38 +1,17 @@
--- What the grammar reads: it ends inside of the text, and its first byte is one that begins an atom.
---   reads-in: what is read ends inside of the text
---   not-star, not-stop: its first byte is no star, and none that ends a branch
-use Prim.Native.Nat.{ℕ, _+_, _≤_}
+-- What the grammar reads begins with a byte that begins an atom.
+--   not-star, not-stop: so that is no star, and none that ends a branch
+use Prim.Native.Nat.{ℕ}
 use mathlib.Core.Path.{_≡_, refl, sym}
 use mathlib.Core.Bool.{true, _||_}
 use mathlib.Core.List.{List}
 use mathlib.Core.Logic.{inl, inr}
-use native.Mathlib.Omega.{arith}
 use lib.Dec.{eqb}
-use lib.ListN.{length}
 use Rattle.scope.specs.Bytes.{ByteSet, byte}
 use Rattle.scope.specs.Tree.{Leaf, Tree}
 use Rattle.scope.specs.Grammar.{literal, Single, a-dot, a-literal, an-escape, a-class, Level, Reads, single, no-byte, no-word, in-group, one-atom, one-star, one-factor, next-factor, one-branch, next-branch}
 use Rattle.scope.proofs.Tests.{or, equals}
 use Rattle.scope.proofs.Grammar.{other, escape-head}
-use Rattle.leaves.proofs.Grammar.{inside, single-in}
-use Rattle.pattern.specs.Tails.{stops}
-
--- ---- what is read ends inside of the text
-
-module _ {s : List ℕ} where
-  pub reads-in : {l : Level} {i j : ℕ} {t : Tree} → Reads s l i j t → j ≤ length s
-  reads-in (single x) = single-in x
-  reads-in {i = i} (no-byte h k) = omega (arith, inside s (i + 1) (λ e. omega arith))
-  reads-in {i = i} (no-word h k) = omega (arith, inside s (i + 1) (λ e. omega arith))
-  reads-in (in-group {j = j} h r k) = omega (arith, inside s j (λ e. omega arith))
-  reads-in (one-atom r) = reads-in r
-  reads-in (one-star {j = j} r h) = omega (arith, inside s j (λ e. omega arith))
-  reads-in (one-factor r) = reads-in r
-  reads-in (next-factor r q) = reads-in q
-  reads-in (one-branch r) = reads-in r
-  reads-in (next-branch r h q) = reads-in q
-
--- ---- first bytes
+use Rattle.factors.specs.Tails.{stops}
 
 -- b begins an atom
 unfoldable begins : ByteSet

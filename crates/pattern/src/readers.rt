@@ -1,29 +1,20 @@
 // Four readers that call each other while the remaining bytes fall. Each takes what the text has at a place, and answers with its part; it requires that there is
 // something to read, so it never refuses. A judged text has at most 32 nested parentheses: at most 33 calls of each reader are open at a time.
 ghost use mathlib.Core.Bool.{not};
-ghost use mathlib.Core.List.{List};
 ghost use mathlib.Core.Path.{_≡_};
-ghost use Prim.Native.Nat.{ℕ, _≤_};
-ghost use lib.ListN.{length};
-ghost use Rattle.scope.specs.Bytes.{byte};
 ghost use Rattle.scope.specs.Grammar.{atoms, factors, branches, exprs};
-ghost use Rattle.sets.specs.Layout.{byteSets};
-ghost use Rattle.pattern.specs.Tails.{stops};
-ghost use Rattle.pattern.specs.Answer.{Fit, Ready, Rooms, Starred, Answer};
-use leaves::single;
+ghost use Rattle.factors.specs.Tails.{stops};
+ghost use Rattle.factors.specs.Answer.{Ready, Answer};
+ghost use Rattle.pattern.specs.Reading.{Rooms};
+use factors::leaf;
+use factors::stars;
 use leaves::text::BAR;
 use leaves::text::CLOSE;
-use leaves::text::EMPTY;
 use leaves::text::END;
-use leaves::text::NOTHING;
 use leaves::text::OPEN;
-use leaves::text::STAR;
 use leaves::text::byte_at;
-use leaves::text::escaped;
 use shapes::Part;
-use shapes::alone;
 use shapes::beside;
-use shapes::blank;
 use shapes::either;
 use shapes::link;
 use shapes::moved;
@@ -39,35 +30,6 @@ fn goes_on(b: usize) -> bool
         return false;
     }
     b != BAR
-}
-
-// An atom other than one in parentheses.
-fn leaf(text: &[u8], at: usize, count: usize, bytes: &mut [u8]) -> Part
-    requires { ⌜ Ready atoms count (now text) at × (byte (now text) at ≡ 40 → ⊥) ⌝ }
-    requires { ⌜ byteSets ≤ length (now bytes) ⌝ }
-    ensures { λ r. ⌜ ((w : List ℕ) → Answer atoms (now (text .entry)) at count (now (bytes .entry)) (now (bytes .exit)) w w r) ⌝ }
-{
-    let b = escaped(text, at);
-    if b == EMPTY {
-        return blank(at + 2, count, true);
-    }
-    if b == NOTHING {
-        return blank(at + 2, count, false);
-    }
-    alone(single(text, at, count, bytes), count)
-}
-
-// The part with the stars after it.
-fn stars(text: &[u8], part: Part, words: &mut [u64]) -> Part
-    requires { ⌜ Fit (now text) (now words) part ⌝ }
-    ensures { λ r. ⌜ Starred (now (text .entry)) (now (words .entry)) part (now (words .exit)) r ⌝ }
-{
-    let mut all = part;
-    while byte_at(text, all.next) == STAR {
-        link(words, all.count, all.last, all.first);
-        all = moved(all, all.next + 1, true);
-    }
-    all
 }
 
 // An atom: an expression in parentheses, or a leaf.

@@ -13,7 +13,7 @@ use mathlib.Core.List.{List, [], _∷_, _++_}
 use lib.ListN.{length}
 use Rattle.scope.specs.Limits.{positionLimit}
 use Rattle.scope.specs.Judge.{Beyond}
-use Rattle.scope.specs.Modes.{Piece, atom, low, high, Mode, await, done, back, code, digit, State, stuck, at, isStuck}
+use Rattle.scope.specs.Modes.{Piece, atom, low, high, await, done, back, code, digit, State, stuck, at, isStuck}
 use Rattle.reading.specs.Notes.{Notes, readAs}
 use Rattle.reading.specs.declared.Tally.{Tally}
 use Rattle.reading.specs.declared.Reading.{Reading}

@@ -1,7 +1,7 @@
 -- By the tests.
 use mathlib.Core.Path.{refl}
 use borrow.Author.Tests.{ne-eqb}
-use Rattle.pattern.specs.Tails.{stops}
+use Rattle.factors.specs.Tails.{stops}
 use Rattle.pattern.proofs.readers.goes_on.Statement.{statement}
 use Rattle.pattern.proofs.readers.goes_on.Tie as tie
 

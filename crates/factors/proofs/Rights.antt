@@ -22,7 +22,7 @@ use Rattle.sets.specs.Value.{value, setAt}
 use Rattle.shapes.specs.declared.Part.{Part}
 use Rattle.sets.specs.Layout.{byteSets, held, wordSets}
 use Rattle.leaves.specs.Held.{Marked}
-use Rattle.pattern.specs.Right.{Follows, Holds, Right}
+use Rattle.factors.specs.Right.{Follows, Holds, Right}
 use Rattle.shapes.specs.Shapes.{Linked, Alone, Blank, Beside, Either, Moved}
 
 -- unions regrouped

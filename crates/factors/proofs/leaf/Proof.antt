@@ -1,8 +1,8 @@
 -- The byte after a backslash tells the atoms without a position from the others.
-use Rattle.pattern.proofs.Atoms.{leaf-empty, leaf-nothing, leaf-some, leaf-room, leaf-single}
+use Rattle.factors.proofs.Atoms.{leaf-empty, leaf-nothing, leaf-some, leaf-room, leaf-single}
 use borrow.Author.Needs.{needs}
-use Rattle.pattern.proofs.readers.leaf.Statement.{statement}
-use Rattle.pattern.proofs.readers.leaf.Tie as tie
+use Rattle.factors.proofs.leaf.Statement.{statement}
+use Rattle.factors.proofs.leaf.Tie as tie
 
 returns : tie.Need-returns
 returns c = leaf-empty (c .before .before .before .before .before .pre .0 .0) (c .before .before .escaped .ensures) (c .before .if1 .taken) (c .blank .ensures)

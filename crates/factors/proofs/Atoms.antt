@@ -2,28 +2,26 @@
 --   answer: what is said of everything that can be read, with one thing that can be
 --   leaf-empty, leaf-nothing: an atom without a position was read
 --   leaf-some, leaf-room, leaf-single: one with a position can be read; there is room for it; it was read
---   ready-inner, answer-inner: an expression in parentheses
 use Prim.Native.Nat.{ℕ, _+_, _<_}
-use mathlib.Core.Path.{_≡_, refl, sym, ap, _∙_}
+use mathlib.Core.Path.{_≡_, refl, sym, _∙_}
 use mathlib.Core.Bool.{true, false}
 use mathlib.Core.List.{List}
 use native.Mathlib.Decide.{ℕ-discrete}
 use native.Mathlib.Omega.{arith}
 use Rattle.scope.specs.Bytes.{byte}
-use Rattle.scope.specs.Grammar.{escapable, Single, Level, atoms, exprs, Reads, single, no-byte, no-word, in-group}
+use Rattle.scope.specs.Grammar.{escapable, Single, Level, atoms, Reads, single, no-byte, no-word, in-group}
 use Rattle.scope.specs.Limits.{positionLimit}
-use Rattle.scope.specs.Tree.{Leaf, Tree, nothing, empty, position, group, setOf, expr}
-use Rattle.scope.proofs.Grammar.{single-on, reads-on, single-group, single-back}
+use Rattle.scope.specs.Tree.{Leaf, Tree, nothing, empty, position, setOf, expr}
+use Rattle.scope.proofs.Grammar.{single-on, reads-on, single-back}
 use Rattle.shapes.specs.declared.Part.{Part}
 use Rattle.leaves.specs.Parts.{Backslash, Some, Took}
-use Rattle.pattern.specs.Tails.{closes, Whole}
-use Rattle.shapes.specs.Shapes.{Alone, Blank, Moved}
-use Rattle.pattern.specs.Answer.{Ready, Found, Answer}
-use Rattle.pattern.proofs.Grammar.{reads-in}
+use Rattle.factors.specs.Tails.{Whole}
+use Rattle.shapes.specs.Shapes.{Alone, Blank}
+use Rattle.factors.specs.Answer.{Ready, Found, Answer}
+use Rattle.factors.proofs.Grammar.{reads-in}
 use Rattle.leaves.proofs.Grammar.{single-in}
 use Rattle.leaves.proofs.Classes.{some}
-use Rattle.pattern.proofs.Rights.{right-alone, right-empty, right-nothing, right-moved}
-use Rattle.pattern.proofs.Tails.{ready}
+use Rattle.factors.proofs.Rights.{right-alone, right-empty, right-nothing}
 
 -- one thing that can be read tells how far every one goes
 pub answer : {l : Level} {s : List ℕ} {i k : ℕ} {y y′ w w′ : List ℕ} {g : Part} → Ready l k s i → ((j : ℕ) (t : Tree) → Whole l s i j t → Found t k y y′ w w′ g j) → Answer l s i k y y′ w w′ g
@@ -78,29 +76,3 @@ module _ {s : List ℕ} where
       pub leaf-single : {y y′ : List ℕ} {r : ℕ} {g : Part} → Took Single setOf s i k y y′ r → Alone r k g → (w : List ℕ) → Answer atoms s i k y y′ w w g
       unfolding expr
       leaf-single t m w = answer p (λ j u v. let (x, r, d) = is-single n q e z (v .0) in let (o, h) = t .says j x r in record { next = m .nexts ∙ o; right = rw d (right-alone h m) })
-
--- ---- in parentheses
-
-record Inner (s : List ℕ) (i j : ℕ) (t : Tree) : Type 0 where
-  end : ℕ
-  tree : Tree
-  whole : Whole exprs s (i + 1) end tree
-  next : end + 1 ≡ j
-  is : t ≡ group i tree
-
-module _ {s : List ℕ} where
-  inner : {i j : ℕ} {t : Tree} → byte s i ≡ 40 → Reads s atoms i j t → Inner s i j t
-  unfolding closes
-  inner h (single x) = absurd (single-group x h)
-  inner h (no-byte h′ k) = absurd (omega arith)
-  inner h (no-word h′ k) = absurd (omega arith)
-  inner h (in-group h′ r k) = record { end = _; tree = _; whole = (r, rw k refl); next = refl; is = refl }
-
-  module _ {i k b : ℕ} (p : Ready atoms k s i) (q : b ≡ byte s i) (e : b ≡ 40) where
-    pub ready-inner : Ready exprs k s (i + 1)
-    unfolding expr
-    ready-inner = let x = inner (sym q ∙ e) (p .whole .0) in ready exprs (p .short) (x .whole) (rw (x .is) at (p .brief))
-
-    pub answer-inner : {y y′ w w′ : List ℕ} {g r : Part} → Answer exprs s (i + 1) k y y′ w w′ g → Moved g (g .next + 1) (g .null) r → Answer atoms s i k y y′ w w′ r
-    unfolding expr
-    answer-inner a m = answer p (λ j t v. let x = inner (sym q ∙ e) (v .0) in let f = a .says (x .end) (x .tree) (x .whole) in record { next = m .nexts ∙ ap (λ (n : ℕ). n + 1) (f .next) ∙ x .next; right = rw (x .is) (right-moved (f .right) m) })

@@ -6,12 +6,11 @@ use native.Mathlib.Omega.{arith}
 use borrow.Author.Needs.{needs}
 use lib.ListN.{length}
 use Rattle.scope.specs.Grammar.{factors}
-use Rattle.pattern.specs.Answer.{Fit, Carried}
+use Rattle.factors.specs.Answer.{Fit, Carried}
 use Rattle.leaves.proofs.Grammar.{inside}
-use Rattle.pattern.proofs.Tails.{carried-none, carried-more}
-use Rattle.pattern.proofs.Turns.{star-fit, star-turn}
-use Rattle.pattern.proofs.readers.stars.Statement.{statement}
-use Rattle.pattern.proofs.readers.stars.Tie as tie
+use Rattle.factors.proofs.Carried.{carried-none, carried-more, star-fit, star-turn}
+use Rattle.factors.proofs.stars.Statement.{statement}
+use Rattle.factors.proofs.stars.Tie as tie
 
 abbrev Inv-loop : tie.InvT-loop
 Inv-loop text words₀ all₀ words all = (all₀ .next ≤ all .next) × (length words ≡ length words₀) × Fit text words all × ((y : List ℕ) → Carried factors text y words₀ all₀ y words all)

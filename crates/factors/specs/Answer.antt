@@ -1,6 +1,5 @@
 -- What the readers are handed, and what they answer.
 --   Ready l k s i: at i an l can be read whose positions fit after k others
---   Rooms y w: the bytes and the words have room for the sets of all positions
 --   Fit s w g: the part g lies in the text, and its positions are those up to its count
 --   Found t k y y′ w w′ g j: the part g is that of the tree t, which ends at j
 --   Answer l s i k y y′ w w′ g: g is the part of every l that can be read at i
@@ -20,9 +19,9 @@ use Rattle.scope.specs.Re.{size}
 use Rattle.scope.specs.Tree.{Tree, expr}
 use Rattle.sets.specs.Value.{setBits, value}
 use Rattle.shapes.specs.declared.Part.{Part}
-use Rattle.sets.specs.Layout.{byteSets, wordSets}
-use Rattle.pattern.specs.Tails.{Ends, Whole, Tail}
-use Rattle.pattern.specs.Right.{Right}
+use Rattle.sets.specs.Layout.{wordSets}
+use Rattle.factors.specs.Tails.{Ends, Whole, Tail}
+use Rattle.factors.specs.Right.{Right}
 
 pub record Ready (l : Level) (k : ℕ) (s : List ℕ) (i : ℕ) : Type 0 where
   pub short : length s ≤ patternLimit
@@ -31,10 +30,6 @@ pub record Ready (l : Level) (k : ℕ) (s : List ℕ) (i : ℕ) : Type 0 where
   pub tree : Tree
   pub whole : Whole l s i end tree
   pub brief : k + size (expr tree) ≤ positionLimit
-
-pub record Rooms (y w : List ℕ) : Type 0 where
-  pub bytes : byteSets ≤ length y
-  pub words : wordSets ≤ length w
 
 pub record Fit (s w : List ℕ) (g : Part) : Type 0 where
   pub short : length s ≤ patternLimit
