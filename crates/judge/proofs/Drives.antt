@@ -17,7 +17,7 @@ use Rattle.scope.specs.Grammar.{literal, escapable, classLiteral, hex, Escape, 
 use Rattle.scope.specs.Judge.{Pattern}
 use Rattle.scope.proofs.Tests.{below}
 use Rattle.scope.specs.Modes.{Piece, atom, low, high, Mode, await, done, back, code, digit, State, stuck, at, after, bareIn, begins, again, ends, next, runTo}
-use Rattle.judge.specs.Notes.{Marks, since, started, asRead, nested, begun, dashed, marked, note, blank, Notes}
+use Rattle.reading.specs.Notes.{Marks, since, started, asRead, nested, begun, dashed, marked, note, blank, Notes}
 use Rattle.judge.proofs.Nested.{inside, inside-opened}
 
 -- what is noted after the first i bytes of s

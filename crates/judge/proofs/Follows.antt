@@ -18,12 +18,14 @@ use Rattle.scope.proofs.Lists.{any-default}
 use Rattle.scope.specs.Modes.{Piece, atom, at, isStuck, after, runTo}
 use Rattle.scope.proofs.Places.{legal-exact, stuck-at, unfinished}
 use Rattle.judge.specs.declared.Judged.{Judged}
-use Rattle.judge.specs.declared.reading.Reading.{Reading}
+use Rattle.reading.specs.declared.Reading.{Reading}
 use Rattle.judge.specs.Judges.{Judges, legal, syntax, range, depth, positions}
-use Rattle.judge.specs.Notes.{blank}
-use Rattle.judge.specs.Reading.{pieceOf, stateOf, standing, Kept, Advances, Finds, nothing, falling, deep, many, Faults}
+use Rattle.reading.specs.Notes.{blank}
+use Rattle.judge.specs.Faults.{Finds, nothing, falling, deep, many, Faults}
+use Rattle.reading.specs.Reading.{pieceOf, stateOf, standing, Kept}
+use Rattle.inside.specs.Steps.{Advances}
 use Rattle.judge.proofs.Drives.{notesTo, Noted, legal-notes}
-use Rattle.judge.proofs.Laws.{beyond-stage}
+use Rattle.reading.proofs.Laws.{beyond-stage}
 
 pub record Follows (s : List ℕ) (i : ℕ) (x : Reading) : Type 0 where
   pub state : standing x ≡ runTo s i

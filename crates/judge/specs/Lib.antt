@@ -1,4 +1,3 @@
--- What the public contract says, and then what the contracts of the inner functions say: the notes beside the mode machine, and the code's numbers.
+-- What the public contract says, and what is judged of the places that were noted.
 pub mod Judges
-pub mod Notes
-pub mod Reading
+pub mod Faults

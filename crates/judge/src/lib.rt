@@ -1,9 +1,8 @@
 // Judging a pattern text: SYNTAX, RANGE, DEPTH and POSITIONS with their places, in one pass with a mode and a count of open parentheses.
 ghost use Rattle.judge.specs.Judges.{Judges};
+ghost use Rattle.judge.specs.Faults.{Faults};
 use reading::Reading;
-
-pub mod bytes;
-mod reading;
+use scope::Machine;
 
 // What a text is judged: legal, or the first fault in the order of judgement, with its place.
 pub enum Judged {
@@ -14,6 +13,25 @@ pub enum Judged {
     Positions(usize),
 }
 
+// At the end of a legal text: its first fault of the order of a range's ends, and of the limits.
+fn first_fault(x: Reading) -> Judged
+    ensures { λ r. ⌜ Faults x r ⌝ }
+{
+    let falls = x.falls;
+    if 0 < falls.count {
+        return Judged::Range(falls.place);
+    }
+    let opens = x.opens;
+    if 0 < opens.count {
+        return Judged::Depth(opens.place);
+    }
+    let firsts = x.firsts;
+    if Machine::POSITIONS < firsts.count {
+        return Judged::Positions(firsts.place);
+    }
+    Judged::Legal
+}
+
 // What the text is judged.
 pub fn judge(text: &[u8]) -> Judged
     ensures { λ r. ⌜ Judges (now (text .entry)) r ⌝ }
@@ -21,7 +39,7 @@ pub fn judge(text: &[u8]) -> Judged
     let mut x = Reading::new();
     let mut place: usize = 0;
     while place < text.len() {
-        x = x.advance(text[place], place);
+        x = advance::advance(x, text[place], place);
         if Reading::DIGIT < x.stage {
             return Judged::Syntax(place);
         }
@@ -36,5 +54,5 @@ pub fn judge(text: &[u8]) -> Judged
     if x.deep != 0 {
         return Judged::Syntax(place);
     }
-    x.judged()
+    first_fault(x)
 }

@@ -4,7 +4,6 @@
 --   first-factor, first-branch, first-expr: each has one
 --   ready-atom, ready-factor, ready-branch: which can be read, too
 --   begun: what is read there is a first part of whatever the l may be
---   carried-none, carried-more: nothing more was read; some more
 use Prim.Native.Nat.{ℕ, _+_, _≤_}
 use mathlib.Core.Path.{_≡_, refl, sym, subst}
 use mathlib.Core.Bool.{true}
@@ -17,10 +16,11 @@ use Rattle.scope.specs.Limits.{patternLimit, positionLimit}
 use Rattle.scope.specs.Re.{size}
 use Rattle.scope.specs.Tree.{Tree, starred, beside, either, expr}
 use Rattle.scope.proofs.Grammar.{other, reads-on}
-use Rattle.pattern.specs.declared.shapes.Part.{Part}
-use Rattle.pattern.specs.Tails.{closes, stops, Whole, Tail, done, a-star, a-factor, a-branch}
-use Rattle.pattern.specs.Answer.{Ready, Answer, Going, Carried}
-use Rattle.pattern.proofs.Grammar.{reads-in, not-star}
+use Rattle.shapes.specs.declared.Part.{Part}
+use Rattle.factors.specs.Tails.{closes, stops, Whole, Tail, done, a-star, a-factor, a-branch}
+use Rattle.factors.specs.Answer.{Ready, Answer, Going}
+use Rattle.pattern.proofs.Grammar.{not-star}
+use Rattle.factors.proofs.Grammar.{reads-in}
 
 -- ---- what ends what
 
@@ -107,9 +107,3 @@ module _ {s : List ℕ} where
   begun {l = l} {j = j} {u = u} a f =
       let x = a .says (f .end) (f .tree) (f .head) in
       record { tree = f .tree; right = x .right; tail = subst (λ (n : ℕ). Tail s l (f .tree) n u j) (sym (x .next)) (f .tail) }
-
-pub carried-none : (l : Level) (s y w : List ℕ) (g : Part) → Carried l s y w g y w g
-carried-none l s y w g = record { says = λ k y₀ w₀ u j e q. q }
-
-pub carried-more : {l : Level} {s y y′ y″ w w′ w″ : List ℕ} {g g′ g″ : Part} → Carried l s y w g y′ w′ g′ → Carried l s y′ w′ g′ y″ w″ g″ → Carried l s y w g y″ w″ g″
-carried-more a b = record { says = λ k y₀ w₀ u j e q. b .says k y₀ w₀ u j e (a .says k y₀ w₀ u j e q) }

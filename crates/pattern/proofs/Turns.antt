@@ -2,7 +2,7 @@
 -- makes it a longer one, and when none is left it is the whole.
 --   is-on, is-off: what the test of a branch's loop says
 --   factor-last, branch-last: a tail that does not go on is over
---   star-fit, star-turn: one more star; factor-fit, factor-found: the stars after an atom
+--   factor-fit, factor-found: the stars after an atom
 --   going, going-small, going-found: what there is after some turns; its count; what it is when none is left
 --   factor-ready, factor-turn: one more factor; branch-ready, branch-turn: one more branch
 use Prim.Native.Nat.{ℕ, _+_, _<_, _≤_}
@@ -16,19 +16,20 @@ use Rattle.scope.specs.Bytes.{byte}
 use Rattle.scope.specs.Grammar.{Level, atoms, factors, branches, exprs}
 use Rattle.scope.specs.Limits.{positionLimit}
 use Rattle.scope.specs.Re.{size}
-use Rattle.scope.specs.Tree.{Tree, starred, beside, either, expr}
+use Rattle.scope.specs.Tree.{Tree, beside, either, expr}
 use Rattle.scope.proofs.Tests.{which}
 use Rattle.scope.proofs.Grammar.{other}
 use Rattle.sets.specs.Value.{setBits, value}
-use Rattle.pattern.specs.declared.shapes.Part.{Part}
-use Rattle.pattern.specs.Tails.{closes, stops, Ends, Whole, Tail, done, a-star, a-factor, a-branch}
+use Rattle.shapes.specs.declared.Part.{Part}
+use Rattle.factors.specs.Tails.{closes, stops, Ends, Whole, Tail, done, a-factor, a-branch}
 use Rattle.sets.specs.Layout.{wordSets}
-use Rattle.pattern.specs.Right.{Linked, Beside, Either, Moved}
-use Rattle.pattern.specs.Answer.{Fit, Ready, Found, Answer, Going, Carried, Starred}
-use Rattle.pattern.proofs.Grammar.{inside, not-stop}
-use Rattle.pattern.proofs.Rights.{right-within, right-star, right-beside, right-either}
+use Rattle.shapes.specs.Shapes.{Linked, Beside, Either}
+use Rattle.factors.specs.Answer.{Fit, Ready, Found, Answer, Going, Carried, Starred}
+use Rattle.pattern.proofs.Grammar.{not-stop}
+use Rattle.factors.proofs.Rights.{right-within, right-beside, right-either}
 use Rattle.pattern.proofs.Tails.{First, first-factor, tail-size, ready, begun}
-use Rattle.pattern.proofs.Atoms.{answer}
+use Rattle.factors.proofs.Atoms.{answer}
+use Rattle.factors.proofs.Carried.{star-last}
 
 pub is-on : (b : ℕ) {r : Bool} {n : ℕ} → n ≡ b → r ≡ not (stops n) → r ≡ true → stops b ≡ false
 is-on b e h t = elim (which (stops b)) [ inl z ↦ absurd (false≢true (rw (e, z) at (sym h ∙ t))) | inr z ↦ z ]
@@ -46,14 +47,6 @@ record Next (lo l : Level) (make : Tree → Tree → Tree) (s : List ℕ) (i : �
   tail : Tail s l (make t tree) end u j
 
 module _ {s : List ℕ} where
-  star-next : {n j : ℕ} {t u : Tree} → Tail s factors t n u j → Ends factors (byte s j) → byte s n ≡ 42 → Tail s factors (starred t) (n + 1) u j
-  star-next done e h = absurd (e h)
-  star-next (a-star g r) e h = r
-
-  star-last : {n j : ℕ} {t u : Tree} → Tail s factors t n u j → Ends factors (byte s n) → (n ≡ j) × (t ≡ u)
-  star-last done e = (refl, refl)
-  star-last (a-star g r) e = absurd (e g)
-
   factor-next : {n j : ℕ} {t u : Tree} → Tail s branches t n u j → Ends branches (byte s j) → stops (byte s n) ≡ false → Next factors branches beside s n t u j
   factor-next done e h = absurd (false≢true (sym h ∙ e))
   factor-next (a-factor g r) e h = record { end = _; tree = _; whole = g; tail = r }
@@ -83,15 +76,6 @@ module _ {s : List ℕ} where
     -- its count leaves room for the positions of the whole
     pub going-small : Going l s k y y′ w w′ g u j → k + size (expr u) ≤ positionLimit → g .count < setBits
     going-small q b = omega (arith, q .right .counts, tail-size (q .tail))
-
-  -- ---- stars
-
-  pub star-fit : {w w′ : List ℕ} {g r : Part} → Fit s w g → g .next < length s → length w′ ≡ length w → Moved g (g .next + 1) true r → Fit s w′ r
-  star-fit f i e m = record { short = f .short; inside = omega (arith, m .nexts); words = omega (arith, f .words); few = omega (arith, f .few, m .counts); within = λ q k. rw (m .lasts) (f .within q (omega (arith, m .counts))) }
-
-  pub star-turn : {b : ℕ} {w w′ : List ℕ} {g r : Part} → b ≡ byte s (g .next) → b ≡ 42 → Linked (value (g .last .words)) (value (g .first .words)) w w′ → Moved g (g .next + 1) true r → (y : List ℕ) → Carried factors s y w g y w′ r
-  unfolding expr
-  star-turn p h l m y = record { says = λ k y₀ w₀ u j e q. record { tree = starred (q .tree); right = right-star (q .right) l m; tail = rw (m .nexts) (star-next (q .tail) e (sym p ∙ h)) } }
 
   module _ {k i : ℕ} {y y′ w w′ : List ℕ} {g : Part} (p : Ready factors k s i) (a : Answer atoms s i k y y′ w w′ g) where
     -- the stars after an atom can be read, and what is read then is the factor

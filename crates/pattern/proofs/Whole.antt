@@ -20,10 +20,10 @@ use Rattle.scope.proofs.Bits.{has-zero}
 use Rattle.sets.specs.Value.{value}
 use Rattle.sets.proofs.Words.{set-none}
 use Rattle.pattern.specs.declared.Shape.{Shape}
-use Rattle.pattern.specs.declared.shapes.Part.{Part}
+use Rattle.shapes.specs.declared.Part.{Part}
 use Rattle.sets.specs.Layout.{byteSet, byteSets, held, wordSets}
-use Rattle.pattern.specs.Tails.{closes, Whole}
-use Rattle.pattern.specs.Answer.{Ready, Answer}
+use Rattle.factors.specs.Tails.{closes, Whole}
+use Rattle.factors.specs.Answer.{Ready, Answer}
 use Rattle.pattern.specs.Reading.{Judged, Clear, Reading}
 use Rattle.pattern.proofs.Tails.{ready}
 

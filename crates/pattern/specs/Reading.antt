@@ -1,5 +1,6 @@
 -- What reading promises: the sets of 01, "Positions to machine", for the tree of a text that has been judged.
 --   Judged s: s is a pattern with neither LONG, RANGE, DEPTH nor POSITIONS
+--   Rooms y w: the bytes and the words have room for the sets of all positions
 --   Clear n m: the first n of a buffer are there, and are zero
 --   Shaped e y y′ w w′ r: r, the bytes y′ and the words w′ have the sets of e; the rest of y and w is kept
 --   Reading s y y′ w w′ r: so it is for the tree of s (of which there is one: `one-tree`)
@@ -22,6 +23,10 @@ pub record Judged (s : List ℕ) : Type 0 where
   pub short : length s ≤ patternLimit
   pub tree : Tree
   pub sized : Sized s tree
+
+pub record Rooms (y w : List ℕ) : Type 0 where
+  pub bytes : byteSets ≤ length y
+  pub words : wordSets ≤ length w
 
 pub record Clear (n : ℕ) (m : List ℕ) : Type 0 where
   pub long : n ≤ length m

@@ -1,8 +1,5 @@
 // Reading a judged text: the sets of positions of its tree, and the bytes that each position holds.
-mod leaves;
 mod readers;
-mod shapes;
-mod text;
 
 ghost use Rattle.sets.specs.Layout.{byteSets, wordSets};
 ghost use Rattle.pattern.specs.Reading.{Judged, Clear, Reading};

@@ -1,30 +1,35 @@
 // Four readers that call each other while the remaining bytes fall. Each takes what the text has at a place, and answers with its part; it requires that there is
 // something to read, so it never refuses. A judged text has at most 32 nested parentheses: at most 33 calls of each reader are open at a time.
+ghost use mathlib.Core.Bool.{not};
+ghost use mathlib.Core.Path.{_≡_};
 ghost use Rattle.scope.specs.Grammar.{atoms, factors, branches, exprs};
-ghost use Rattle.pattern.specs.Answer.{Fit, Ready, Rooms, Starred, Answer};
-use crate::leaves::leaf;
-use crate::shapes::Part;
-use crate::shapes::beside;
-use crate::shapes::either;
-use crate::shapes::link;
-use crate::shapes::moved;
-use crate::text::BAR;
-use crate::text::OPEN;
-use crate::text::STAR;
-use crate::text::byte_at;
-use crate::text::goes_on;
+ghost use Rattle.factors.specs.Tails.{stops};
+ghost use Rattle.factors.specs.Answer.{Ready, Answer};
+ghost use Rattle.pattern.specs.Reading.{Rooms};
+use factors::leaf;
+use factors::stars;
+use leaves::text::BAR;
+use leaves::text::CLOSE;
+use leaves::text::END;
+use leaves::text::OPEN;
+use leaves::text::byte_at;
+use shapes::Part;
+use shapes::beside;
+use shapes::either;
+use shapes::link;
+use shapes::moved;
 
-// The part with the stars after it.
-fn stars(text: &[u8], part: Part, words: &mut [u64]) -> Part
-    requires { ⌜ Fit (now text) (now words) part ⌝ }
-    ensures { λ r. ⌜ Starred (now (text .entry)) (now (words .entry)) part (now (words .exit)) r ⌝ }
+// Whether a branch goes on with b.
+fn goes_on(b: usize) -> bool
+    ensures { λ r. ⌜ r ≡ not (stops b) ⌝ }
 {
-    let mut all = part;
-    while byte_at(text, all.next) == STAR {
-        link(words, all.count, all.last, all.first);
-        all = moved(all, all.next + 1, true);
+    if b == CLOSE {
+        return false;
     }
-    all
+    if b == END {
+        return false;
+    }
+    b != BAR
 }
 
 // An atom: an expression in parentheses, or a leaf.

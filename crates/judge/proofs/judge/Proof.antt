@@ -54,11 +54,11 @@ returns-3 c = lacks (c .before .before .before .before .before .before .before .
 returns-4 : tie.Need-returns-4 Inv-loop μ-loop
 returns-4 c = lacks (c .before .before .before .before .before .before .before .before .before .before .args .text .now) (c .before .before .before .before .before .before .before .loop .place) (omega arith) (c .before .before .before .before .before .before .before .loop .inv .4) (c .before .before .before .before .before .before .before .loop .inv .3) (λ _ _ d. c .if4 .taken d)
 
-judged-requires : tie.Need-judged-requires Inv-loop μ-loop
-judged-requires c κs = search needs
+first-fault-requires : tie.Need-first-fault-requires Inv-loop μ-loop
+first-fault-requires c κs = search needs
 
 returns-5 : tie.Need-returns-5 Inv-loop μ-loop
-returns-5 c = ends (c .before .before .before .before .before .before .before .before .before .before .before .args .text .now) (c .before .before .before .before .before .before .before .before .loop .place) (omega arith) (c .before .before .before .before .before .before .before .before .loop .inv .4) (c .before .before .before .before .before .if2 .left) (c .before .before .before .if3 .left) (c .before .if4 .left) (c .judged .ensures)
+returns-5 c = ends (c .before .before .before .before .before .before .before .before .before .before .before .args .text .now) (c .before .before .before .before .before .before .before .before .loop .place) (omega arith) (c .before .before .before .before .before .before .before .before .loop .inv .4) (c .before .before .before .before .before .if2 .left) (c .before .before .before .if3 .left) (c .before .if4 .left) (c .first-fault .ensures)
 
 pub judge-spec : {M : Type 1} → statement M
 judge-spec =
@@ -77,5 +77,5 @@ judge-spec =
     returns-2
     returns-3
     returns-4
-    judged-requires
+    first-fault-requires
     returns-5)

@@ -11,10 +11,11 @@ use mathlib.Core.Path.{_≡_, refl, sym, _∙_}
 use native.Mathlib.Omega.{arith}
 use lib.ListN.{length}
 use Rattle.scope.specs.Grammar.{branches, exprs}
-use Rattle.pattern.specs.Answer.{Carried}
-use Rattle.pattern.proofs.Tails.{first-branch, first-expr, ready-atom, ready-factor, ready-branch, carried-none, carried-more}
-use Rattle.pattern.proofs.Atoms.{ready-inner, answer-inner}
-use Rattle.pattern.proofs.Rights.{right-within}
+use Rattle.factors.specs.Answer.{Carried}
+use Rattle.pattern.proofs.Tails.{first-branch, first-expr, ready-atom, ready-factor, ready-branch}
+use Rattle.factors.proofs.Carried.{carried-none, carried-more}
+use Rattle.pattern.proofs.Groups.{ready-inner, answer-inner}
+use Rattle.factors.proofs.Rights.{right-within}
 use Rattle.pattern.proofs.Turns.{factor-fit, factor-found, going, going-small, going-found, factor-last, branch-last, factor-ready, branch-ready, is-on, is-off, factor-turn, branch-turn}
 use borrow.Fn.Kinds.{In}
 use borrow.Fn.PlainCycle.{Measures, is, falls, and}
@@ -30,14 +31,14 @@ use Rattle.pattern.proofs.readers.+atom+branch+expr+factor.Lts-expr as 
 use Rattle.pattern.proofs.readers.factor.Reads as factor
 use Rattle.pattern.proofs.readers.factor.Kinds as factor-kinds
 use Rattle.pattern.proofs.readers.+atom+branch+expr+factor.Lts-factor as factor-lts
-use Rattle.pattern.proofs.leaves.leaf.Reads as leaf-reads
-use Rattle.pattern.proofs.readers.stars.Reads as stars-reads
-use Rattle.pattern.proofs.shapes.beside.Reads as beside-reads
-use Rattle.pattern.proofs.shapes.either.Reads as either-reads
-use Rattle.pattern.proofs.shapes.link.Reads as link-reads
-use Rattle.pattern.proofs.shapes.moved.Reads as moved-reads
-use Rattle.pattern.proofs.text.byte_at.Reads as byte-at-reads
-use Rattle.pattern.proofs.text.goes_on.Reads as goes-on-reads
+use Rattle.factors.proofs.leaf.Reads as leaf-reads
+use Rattle.factors.proofs.stars.Reads as stars-reads
+use Rattle.shapes.proofs.beside.Reads as beside-reads
+use Rattle.shapes.proofs.either.Reads as either-reads
+use Rattle.shapes.proofs.link.Reads as link-reads
+use Rattle.shapes.proofs.moved.Reads as moved-reads
+use Rattle.leaves.proofs.text.byte_at.Reads as byte-at-reads
+use Rattle.pattern.proofs.readers.goes_on.Reads as goes-on-reads
 use Rattle.pattern.proofs.readers.+atom+branch+expr+factor.{statement}
 use Rattle.pattern.proofs.readers.+atom+branch+expr+factor.Tie.{close}
 

@@ -1,0 +1,36 @@
+-- The byte after a backslash tells the atoms without a position from the others.
+use Rattle.factors.proofs.Atoms.{leaf-empty, leaf-nothing, leaf-some, leaf-room, leaf-single}
+use borrow.Author.Needs.{needs}
+use Rattle.factors.proofs.leaf.Statement.{statement}
+use Rattle.factors.proofs.leaf.Tie as tie
+
+returns : tie.Need-returns
+returns c = leaf-empty (c .before .before .before .before .before .pre .0 .0) (c .before .before .escaped .ensures) (c .before .if1 .taken) (c .blank .ensures)
+
+returns-2 : tie.Need-returns-2
+returns-2 c = leaf-nothing (c .before .before .before .before .before .before .pre .0 .0) (c .before .before .before .escaped .ensures) (c .before .if2 .taken) (c .blank2 .ensures)
+
+single-requires : tie.Need-single-requires
+single-requires c κs = (leaf-some (c .before .before .before .before .before .before .pre .0 .0) (c .before .before .before .escaped .ensures) (c .before .before .before .before .before .before .pre .0 .1) (c .before .before .if1 .left) (c .before .if2 .left), (leaf-room (c .before .before .before .before .before .before .pre .0 .0) (c .before .before .before .escaped .ensures) (c .before .before .before .before .before .before .pre .0 .1) (c .before .before .if1 .left) (c .before .if2 .left), search needs))
+
+alone-requires : tie.Need-alone-requires
+alone-requires c κs = leaf-room (c .before .before .before .before .before .before .before .before .before .pre .0 .0) (c .before .before .before .before .before .before .escaped .ensures) (c .before .before .before .before .before .before .before .before .before .pre .0 .1) (c .before .before .before .before .before .if1 .left) (c .before .before .before .before .if2 .left)
+
+returns-3 : tie.Need-returns-3
+returns-3 c = leaf-single (c .before .before .before .before .before .before .before .before .before .before .pre .0 .0) (c .before .before .before .before .before .before .before .escaped .ensures) (c .before .before .before .before .before .before .before .before .before .before .pre .0 .1) (c .before .before .before .before .before .before .if1 .left) (c .before .before .before .before .before .if2 .left) (c .before .before .before .single .ensures) (c .alone .ensures)
+
+pub leaf-spec : {M : Type 1} → statement M
+leaf-spec =
+    tie.close
+    (tie.spec
+    (λ c κs. search needs)
+    (λ c. search needs)
+    (λ c κs. search needs)
+    returns
+    (λ c. search needs)
+    (λ c κs. search needs)
+    returns-2
+    single-requires
+    alone-requires
+    (λ c. search needs)
+    returns-3)

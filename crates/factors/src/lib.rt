@@ -1,0 +1,49 @@
+// What a factor is made of, but for parentheses: a leaf, and the stars after an atom. Each reads what the text has at a place, and requires that it is there.
+ghost use mathlib.Core.List.{List};
+ghost use mathlib.Core.Path.{_≡_};
+ghost use Prim.Native.Nat.{ℕ, _≤_};
+ghost use lib.ListN.{length};
+ghost use Rattle.scope.specs.Bytes.{byte};
+ghost use Rattle.scope.specs.Grammar.{atoms};
+ghost use Rattle.sets.specs.Layout.{byteSets};
+ghost use Rattle.factors.specs.Answer.{Fit, Ready, Starred, Answer};
+use leaves::single;
+use leaves::text::EMPTY;
+use leaves::text::NOTHING;
+use leaves::text::STAR;
+use leaves::text::byte_at;
+use leaves::text::escaped;
+use shapes::Part;
+use shapes::alone;
+use shapes::blank;
+use shapes::link;
+use shapes::moved;
+
+// An atom other than one in parentheses.
+pub fn leaf(text: &[u8], at: usize, count: usize, bytes: &mut [u8]) -> Part
+    requires { ⌜ Ready atoms count (now text) at × (byte (now text) at ≡ 40 → ⊥) ⌝ }
+    requires { ⌜ byteSets ≤ length (now bytes) ⌝ }
+    ensures { λ r. ⌜ ((w : List ℕ) → Answer atoms (now (text .entry)) at count (now (bytes .entry)) (now (bytes .exit)) w w r) ⌝ }
+{
+    let b = escaped(text, at);
+    if b == EMPTY {
+        return blank(at + 2, count, true);
+    }
+    if b == NOTHING {
+        return blank(at + 2, count, false);
+    }
+    alone(single(text, at, count, bytes), count)
+}
+
+// The part with the stars after it.
+pub fn stars(text: &[u8], part: Part, words: &mut [u64]) -> Part
+    requires { ⌜ Fit (now text) (now words) part ⌝ }
+    ensures { λ r. ⌜ Starred (now (text .entry)) (now (words .entry)) part (now (words .exit)) r ⌝ }
+{
+    let mut all = part;
+    while byte_at(text, all.next) == STAR {
+        link(words, all.count, all.last, all.first);
+        all = moved(all, all.next + 1, true);
+    }
+    all
+}

@@ -1,0 +1,7 @@
+-- The text: ends inside of it, and how a byte is read
+pub mod Grammar
+-- Byte sets in the buffer
+pub mod Held
+-- What stands at one position
+pub mod Classes
+pub mod Singles

@@ -1,0 +1,75 @@
+// What stands at one position: a literal, a byte's escape, the dot or a class. Its bytes are marked in a lent buffer.
+mod marks;
+pub mod text;
+
+ghost use Prim.Native.Nat.{_<_, _≤_};
+ghost use lib.ListN.{length};
+ghost use Rattle.scope.specs.Grammar.{Single};
+ghost use Rattle.scope.specs.Limits.{positionLimit};
+ghost use Rattle.scope.specs.Tree.{itemSet, itemsSet, setOf};
+ghost use Rattle.sets.specs.Layout.{byteSets};
+ghost use Rattle.leaves.specs.Parts.{Some, WholeItem, WholeItems, Took};
+use marks::mark;
+use text::BACKSLASH;
+use text::CLASS_CLOSE;
+use text::CLASS_OPEN;
+use text::DASH;
+use text::DOT;
+use text::byte_at;
+use text::class_byte;
+use text::escape;
+
+// Marks the bytes of one item of a class; the place after it.
+fn item(text: &[u8], at: usize, k: usize, bytes: &mut [u8]) -> usize
+    requires { ⌜ Some WholeItem (now text) at ⌝ }
+    requires { ⌜ (k < positionLimit) × (byteSets ≤ length (now bytes)) ⌝ }
+    ensures { λ r. ⌜ Took WholeItem itemSet (now (text .entry)) at k (now (bytes .entry)) (now (bytes .exit)) r ⌝ }
+{
+    let low = class_byte(text, at);
+    let next = low.next;
+    if byte_at(text, next) == DASH {
+        let high = class_byte(text, next + 1);
+        mark(bytes, k, low.byte, high.byte);
+        high.next
+    } else {
+        mark(bytes, k, low.byte, low.byte);
+        next
+    }
+}
+
+// Marks the bytes of the items of a class; the place of the `]` after them.
+fn items(text: &[u8], at: usize, k: usize, bytes: &mut [u8]) -> usize
+    requires { ⌜ Some WholeItems (now text) at ⌝ }
+    requires { ⌜ (k < positionLimit) × (byteSets ≤ length (now bytes)) ⌝ }
+    ensures { λ r. ⌜ Took WholeItems itemsSet (now (text .entry)) at k (now (bytes .entry)) (now (bytes .exit)) r ⌝ }
+{
+    let mut next = at;
+    while byte_at(text, next) != CLASS_CLOSE {
+        next = item(text, next, k, bytes);
+    }
+    next
+}
+
+// Marks the bytes of an atom that is one position; the place after it.
+pub fn single(text: &[u8], at: usize, k: usize, bytes: &mut [u8]) -> usize
+    requires { ⌜ Some Single (now text) at ⌝ }
+    requires { ⌜ (k < positionLimit) × (byteSets ≤ length (now bytes)) ⌝ }
+    ensures { λ r. ⌜ Took Single setOf (now (text .entry)) at k (now (bytes .entry)) (now (bytes .exit)) r ⌝ }
+{
+    let b = byte_at(text, at);
+    if b == DOT {
+        mark(bytes, k, 0, 255);
+        return at + 1;
+    }
+    if b == CLASS_OPEN {
+        return items(text, at + 1, k, bytes) + 1;
+    }
+    if b == BACKSLASH {
+        let e = escape(text, at);
+        mark(bytes, k, e.byte, e.byte);
+        return e.next;
+    }
+    let c = b as u8;
+    mark(bytes, k, c, c);
+    at + 1
+}
