@@ -1,6 +1,6 @@
 -- The laws of the loops and of the branches.
 --   no-keys, key-found: no key so far, with one byte more that is no key, or is one
---   room-part, text-part, joined-text: what is matched
+--   room-part, text-part, joined-copied, joined-text: what is matched
 --   field-matched, field-refused: what the match of a field says
 use Prim.Native.Nat.{ℕ, _+_, _*_, _-_, _≤_, _<_}
 use mathlib.Core.Path.{_≡_, refl, sym, _∙_}
@@ -9,9 +9,10 @@ use mathlib.Core.Bool.{Bool, false}
 use mathlib.Core.List.{List, [], _∷_, _++_}
 use native.Mathlib.Omega.{arith}
 use borrow.Author.Count.{below-more}
-use lib.ListN.{length, getD, take, drop, length-take, length-append, List·getD-append}
-use lib.Seq.{ext-getD, length-take-le, getD-take, getD-append-seam}
+use lib.ListN.{length, getD, set, take, drop, length-set, length-take, length-append, List·getD-append}
+use lib.Seq.{ext-getD, length-take-le, getD-set-same, getD-set-other, getD-take, getD-append-seam}
 use Rattle.scope.specs.Answers.{ACCEPTED, matchedNumber, matchedPlace}
+use Rattle.scope.specs.Buffers.{Written}
 use Rattle.scope.specs.Limits.{byteValues, roomBytes}
 use Rattle.scope.specs.Match.{Matches}
 use Rattle.scope.specs.declared.Matched.{Matched}
@@ -20,7 +21,7 @@ use Rattle.scope.proofs.Tests.{split}
 use Rattle.slices.specs.Parts.{Decides}
 use Rattle.slices.proofs.Laws.{fails, part-all}
 use Rattle.forms.specs.Text.{Literal, roomOf, IsAccepted}
-use Rattle.forms.specs.Form.{fieldLimit, textLimit, textsAt, formBytes, lengthOf, textOf}
+use Rattle.forms.specs.Form.{fieldLimit, textLimit, textsAt, formBytes, lengthOf, byteOf, textOf}
 use Rattle.forms.specs.Stand.{NoKeys, Joined}
 use Rattle.forms.specs.Test.{Plain}
 use Rattle.forms.proofs.Texts.{text-length, text-byte, text-bytes}
@@ -44,6 +45,15 @@ room-part rooms f = part-all (f * roomBytes) rooms
 -- the part of a form from the beginning of a text to its end is the text
 pub text-part : (form : List ℕ) (f : ℕ) → take ((textsAt + f * textLimit + lengthOf form f) - (textsAt + f * textLimit)) (drop (textsAt + f * textLimit) form) ≡ textOf form f
 text-part form f = let e : (textsAt + f * textLimit + lengthOf form f) - (textsAt + f * textLimit) ≡ lengthOf form f = omega arith in rw e refl
+
+-- the text of a field, copied into an array, and the byte stored after it
+pub joined-copied : {form old typed : List ℕ} {f key : ℕ} → length old ≡ textLimit + 1 → lengthOf form f < textLimit → Written (lengthOf form f) (byteOf form f) old typed
+    → Joined form (set typed (lengthOf form f) key) f key
+joined-copied {form} {old} {typed} {f} {key} l h w = record {
+  size = length-set typed (lengthOf form f) key ∙ w .size ∙ l;
+  begin = λ i k. getD-set-other typed (lengthOf form f) i key 0 (λ z. omega arith) ∙ w .inside i k;
+  last = getD-set-same typed (lengthOf form f) key 0 (omega (arith, w .size));
+}
 
 -- the text of a field and the byte after it, as they stand in the array
 pub joined-text : {form typed : List ℕ} {f key : ℕ} → formBytes ≤ length form → f < fieldLimit → Plain form f → lengthOf form f < textLimit → Joined form typed f key

@@ -72,11 +72,7 @@ fn joined(form: &[u8], f: usize, key: u8) -> [u8; TEXT + 1]
     let at = TEXTS_AT + f * TEXT;
     let long = form[LENGTHS_AT + f] as usize;
     let mut typed = [0u8; TEXT + 1];
-    let mut i: usize = 0;
-    while i < long {
-        typed[i] = form[at + i];
-        i += 1;
-    }
+    slices::copy(&form[at..], &mut typed, long);
     typed[long] = key;
     typed
 }
