@@ -4,8 +4,8 @@ use native.Mathlib.Omega.{arith}
 use borrow.Author.Needs.{needs}
 use borrow.Author.Tests.{not-true, not-false}
 use lib.ListN.{length-set}
-use Rattle.desk.specs.Open.{no-fields, no-room, no-form, opened}
-use Rattle.desk.proofs.Laws.{zeros-shown, zeros-tail}
+use Rattle.entries.specs.Open.{no-fields, no-room, no-form, opened}
+use Rattle.desk.proofs.Opened.{zeros-shown, zeros-tail}
 use Rattle.desk.proofs.open_form.Statement.{statement}
 use Rattle.desk.proofs.open_form.Tie as tie
 
