@@ -12,6 +12,10 @@ use Rattle.typing.proofs.add.Tie as tie
 cast-if1 : tie.Need-cast-if1
 cast-if1 c = omega (arith, c .slice-known2 .given (lengthsAt + c .before .before .before .args .f))
 
+-- there is room for the byte
+of-typed-requires : tie.Need-of-typed-requires
+of-typed-requires c κs = let p = c .before .before .before .before .before .pre in (p .0, p .1, omega (arith, p .1 .short, c .before .if1 .left))
+
 returns : tie.Need-returns
 returns c = presses-lost (c .before .before .before .before .before .before .before .pre .0) (λ s k. c .before .is-kept .ensures .no (not-true _ (c .if2 .taken)) (s, k))
 
@@ -20,9 +24,6 @@ returns-2 c =
     let p = c .before .before .before .before .before .before .before .pre in
     let k = c .before .is-kept .ensures .yes (not-false _ (c .if2 .left)) in
     presses-long (p .0) (p .1) (λ i. omega (arith, c .before .before .before .before .before .slice-known .given i)) (k .0) (k .1) (p .2) (c .before .before .before .if1 .taken)
-
-of-typed-requires : tie.Need-of-typed-requires
-of-typed-requires c κs = let p = c .before .before .before .before .before .pre in (p .0, p .1, omega (arith, p .1 .short, c .before .if1 .left))
 
 append-requires : tie.Need-append-requires
 append-requires c κs = let p = c .before .before .before .before .before .before .before .before .before .pre in (inside (p .0), p .0 .lent .form-long, p .1, omega (arith, p .1 .short, c .before .before .before .before .before .if1 .left))
