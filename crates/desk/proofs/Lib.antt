@@ -1,12 +1,1 @@
-pub mod Good
-pub mod Shown
-pub mod Exact
-pub mod One
-pub mod Open
-pub mod Presses
-pub mod History
-pub mod Keys
-pub mod Retyping
-pub mod Laws
-pub mod Answers
-pub mod Given
+pub mod Opened

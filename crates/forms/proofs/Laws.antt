@@ -1,30 +1,25 @@
 -- The laws of the loops and of the branches.
 --   no-keys, key-found: no key so far, with one byte more that is no key, or is one
---   room-part, text-part, joined-text: what is matched
---   field-matched, field-refused: what the match of a field says
+--   room-part, text-part: what is matched
+--   told: an answer, read from its enum; field-matched, field-refused: what the match of a field says
 use Prim.Native.Nat.{ℕ, _+_, _*_, _-_, _≤_, _<_}
-use mathlib.Core.Path.{_≡_, refl, sym, _∙_}
-use mathlib.Core.Logic.{inl, inr}
+use mathlib.Core.Path.{_≡_, refl, subst}
 use mathlib.Core.Bool.{Bool, false}
-use mathlib.Core.List.{List, [], _∷_, _++_}
+use mathlib.Core.List.{List}
 use native.Mathlib.Omega.{arith}
 use borrow.Author.Count.{below-more}
-use lib.ListN.{length, getD, take, drop, length-take, length-append, List·getD-append}
-use lib.Seq.{ext-getD, length-take-le, getD-take, getD-append-seam}
+use lib.ListN.{length, getD, take, drop}
 use Rattle.scope.specs.Answers.{ACCEPTED, matchedNumber, matchedPlace}
 use Rattle.scope.specs.Limits.{byteValues, roomBytes}
 use Rattle.scope.specs.Match.{Matches}
 use Rattle.scope.specs.declared.Matched.{Matched}
 use Rattle.scope.proofs.Match.{determined}
-use Rattle.scope.proofs.Tests.{split}
 use Rattle.slices.specs.Parts.{Decides}
 use Rattle.slices.proofs.Laws.{fails, part-all}
 use Rattle.forms.specs.Text.{Literal, roomOf, IsAccepted}
-use Rattle.forms.specs.Form.{fieldLimit, textLimit, textsAt, formBytes, lengthOf, textOf}
-use Rattle.forms.specs.Stand.{NoKeys, Joined}
-use Rattle.forms.specs.Test.{Plain}
-use Rattle.forms.proofs.Texts.{text-length, text-byte, text-bytes}
-use Rattle.forms.proofs.Standings.{told}
+use Rattle.forms.specs.Form.{textLimit, textsAt, lengthOf, textOf}
+use Rattle.forms.specs.Test.{NoKeys}
+use Rattle.forms.proofs.Texts.{text-bytes}
 
 -- one byte more that is no key
 pub no-keys : {r : Bool} (form : List ℕ) {from i : ℕ} → Literal (getD form i 0) → Decides r (NoKeys form from i) → Decides r (NoKeys form from (i + 1))
@@ -45,21 +40,9 @@ room-part rooms f = part-all (f * roomBytes) rooms
 pub text-part : (form : List ℕ) (f : ℕ) → take ((textsAt + f * textLimit + lengthOf form f) - (textsAt + f * textLimit)) (drop (textsAt + f * textLimit) form) ≡ textOf form f
 text-part form f = let e : (textsAt + f * textLimit + lengthOf form f) - (textsAt + f * textLimit) ≡ lengthOf form f = omega arith in rw e refl
 
--- the text of a field and the byte after it, as they stand in the array
-pub joined-text : {form typed : List ℕ} {f key : ℕ} → formBytes ≤ length form → f < fieldLimit → Plain form f → lengthOf form f < textLimit → Joined form typed f key
-    → take (lengthOf form f + 1) typed ≡ textOf form f ++ (key ∷ [])
-joined-text {form} {typed} {f} {key} l h p k j = ext-getD 0 (take (lengthOf form f + 1) typed) (textOf form f ++ (key ∷ []))
-    (length-take-le (lengthOf form f + 1) typed (omega (arith, j .size)) ∙ sym (length-append (textOf form f) (key ∷ []) ∙ rw size refl)) at
-  where
-    size : length (textOf form f) ≡ lengthOf form f
-    size = text-length form f l h (p .short)
-
-    at : (i : ℕ) → i < length (take (lengthOf form f + 1) typed) → getD (take (lengthOf form f + 1) typed) i 0 ≡ getD (textOf form f ++ (key ∷ [])) i 0
-    at i m = elim (split i (lengthOf form f)) [
-      | inl x ↦ getD-take (lengthOf form f + 1) typed i 0 (omega arith) ∙ j .begin i x ∙ sym (text-byte form f i x) ∙ sym (List·getD-append (textOf form f) (key ∷ []) 0 i (omega (arith, size)))
-      | inr x ↦ let e : i ≡ lengthOf form f = omega (arith, length-take (lengthOf form f + 1) typed) in
-          rw e (getD-take (lengthOf form f + 1) typed (lengthOf form f) 0 (omega arith) ∙ j .last ∙ sym (rw size at (getD-append-seam (textOf form f) key [] 0)))
-    ]
+-- the answer that a match gave, read from its enum
+pub told : {room text : List ℕ} {r q : Matched} → Matches room text (matchedNumber r) (matchedPlace r) → r ≡ q → Matches room text (matchedNumber q) (matchedPlace q)
+told {room} {text} m e = subst (λ (x : Matched). Matches room text (matchedNumber x) (matchedPlace x)) e m
 
 module _ (rooms form : List ℕ) (f : ℕ) where
   -- the answer of a match of these parts

@@ -1,6 +1,5 @@
 pub mod Dead
 pub mod Texts
 pub mod Places
-pub mod Standings
 pub mod Testing
 pub mod Laws

@@ -10,8 +10,7 @@ use lib.ListN.{getD}
 use Rattle.slices.specs.Parts.{Decides, Greatest}
 use Rattle.forms.specs.Text.{Literal}
 use Rattle.forms.specs.Form.{fieldLimit, textLimit, lengthsAt, textsAt, formBytes, lengthOf, byteOf}
-use Rattle.forms.specs.Stand.{NoKeys}
-use Rattle.forms.specs.Test.{Plain, Empty}
+use Rattle.forms.specs.Test.{Plain, Empty, NoKeys}
 use Rattle.forms.proofs.Places.{Place, counts, closes, measures, spells, place}
 
 -- a byte in the part of a field's text is one of that text

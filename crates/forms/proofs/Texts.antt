@@ -1,5 +1,6 @@
 -- The texts of a form. The lengths and bytes of a form that is long enough are those of its texts.
 --   text-length, text-byte, text-bytes: the text of a field as the form has it
+--   empty-plain: a field with no text passes
 use Prim.Native.Nat.{ℕ, _+_, _*_, _≤_, _<_}
 use mathlib.Core.Path.{_≡_, _∙_}
 use mathlib.Core.Logic.{⊎-elim}
@@ -12,6 +13,7 @@ use Rattle.scope.specs.Limits.{byteValues}
 use Rattle.scope.proofs.Tests.{split}
 use Rattle.scope.proofs.Run.{bytes-known}
 use Rattle.forms.specs.Form.{fieldLimit, textLimit, textsAt, formBytes, lengthOf, byteOf, textOf}
+use Rattle.forms.specs.Test.{Plain, Empty}
 
 -- a text of at most 128 bytes is as long as the form says
 pub text-length : (form : List ℕ) (f : ℕ) → formBytes ≤ length form → f < fieldLimit → lengthOf form f ≤ textLimit → length (textOf form f) ≡ lengthOf form f
@@ -27,3 +29,7 @@ text-bytes form f known = bytes-known (textOf form f) (λ i. ⊎-elim (λ h. rw 
   where
     past : (i : ℕ) → lengthOf form f ≤ i → getD (textOf form f) i 0 ≡ 0
     past i h = List·getD-eq-default (textOf form f) 0 (omega (arith, length-take (lengthOf form f) (drop (textsAt + f * textLimit) form)))
+
+-- a field with no text passes
+pub empty-plain : {form : List ℕ} {f : ℕ} → Empty form f → Plain form f
+empty-plain e = record { short = omega (arith, e .none); literal = λ i h. absurd (omega (arith, e .none)); zero = λ i h k. e .zero i h }

@@ -1,5 +1,4 @@
--- A form and the text of a field, then the test of a form, and what its parts promise.
+-- A form and the text of a field, then the test of a form.
 pub mod Form
 pub mod Text
 pub mod Test
-pub mod Stand

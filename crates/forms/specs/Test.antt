@@ -1,12 +1,15 @@
--- The test of a form, byte by byte: exactly what these machines and keys can give (`given-exact` in `desk`, proofs/Exact).
+-- The test of a form, byte by byte: exactly what these machines and keys can give (`given-exact` in `entries`, proofs/Exact).
 --   Plain form f: the field f has at most 128 bytes, none of them a key, and zero after them
 --   Empty form f: the field f has no text
 --   Kept room text: a text that a field can have while it is open: empty, or not Dead
 --   Valid rooms form: the test
+--   Filled rooms form f: what it asks of a closed field
+--   NoKeys form from to: no byte between is a key
 use Prim.Native.Nat.{ℕ, _<_, _≤_}
 use mathlib.Core.Path.{_≡_}
 use mathlib.Core.Logic.{_⊎_}
 use mathlib.Core.List.{List, []}
+use lib.ListN.{getD}
 use Rattle.forms.specs.Text.{Literal, roomOf, IsAccepted, IsDead}
 use Rattle.forms.specs.Form.{fieldLimit, textLimit, countOf, closedOf, lengthOf, byteOf, textOf, Fields}
 
@@ -33,3 +36,12 @@ pub record Valid (rooms form : List ℕ) : Type 0 where
   pub closed : (f : ℕ) → f < closedOf form → IsAccepted (roomOf rooms f) (textOf form f)
   pub open-kept : closedOf form < countOf form → Kept (roomOf rooms (closedOf form)) (textOf form (closedOf form))
   pub later : (f : ℕ) → f < fieldLimit → (closedOf form < f) ⊎ (countOf form ≤ f) → Empty form f
+
+-- a closed field: a text that passes, and is accepted
+pub record Filled (rooms form : List ℕ) (f : ℕ) : Type 0 where
+  pub plain : Plain form f
+  pub accepted : IsAccepted (roomOf rooms f) (textOf form f)
+
+-- none of the bytes from `from` up to `to` is a key
+abbrev pub NoKeys : List ℕ → ℕ → ℕ → Type 0
+NoKeys form from to = (i : ℕ) → i < to → from ≤ i → Literal (getD form i 0)

@@ -1,9 +1,8 @@
 // The form of the entry desk: where its parts lie, and the test of it.
 //
 // A form is a lent buffer, and the machine rooms are lent end to end with it. A form is judged a field at a time: `test` asks what is asked of every form, of closed
-// fields and of those that are not open yet, `stand` how the text of the open field stands, with a byte after it or not. Texts are judged by the contract of
-// matching, rooms by that of the test whether a room is sound.
-pub mod stand;
+// fields and of those that are not open yet; how the open field stands is asked in `standings`. Texts are judged by the contract of matching, rooms by that of the
+// test whether a room is sound.
 pub mod test;
 
 // The most fields, and the most bytes of a text.
@@ -22,11 +21,3 @@ pub const FORM: usize = TEXTS_AT + FIELDS * TEXT;
 pub const BACK: u8 = 0x08;
 
 pub const CLOSE: u8 = 0x0D;
-
-// How the text of an open field stands, with a byte after it or not; Lost if no keys lead to the field.
-pub enum Standing {
-    Accepted,
-    Unfinished,
-    Dead,
-    Lost,
-}

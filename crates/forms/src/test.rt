@@ -15,8 +15,7 @@ ghost use Rattle.scope.specs.Room.{Sound};
 ghost use Rattle.slices.specs.Parts.{Decides};
 ghost use Rattle.forms.specs.Form.{fieldLimit, formBytes, countOf, closedOf, textOf, Fields, DeskLent};
 ghost use Rattle.forms.specs.Text.{roomOf, IsAccepted};
-ghost use Rattle.forms.specs.Test.{Plain, Empty};
-ghost use Rattle.forms.specs.Stand.{Filled, NoKeys};
+ghost use Rattle.forms.specs.Test.{Plain, Empty, Filled, NoKeys};
 
 // Whether the form and so many machine rooms are long enough.
 pub fn is_lent(count: usize, rooms: &[u8], form: &[u8]) -> bool

@@ -7,8 +7,8 @@ ghost use Rattle.scope.specs.Match.{Matches};
 ghost use Rattle.scope.specs.Minimise.{Minimises};
 ghost use Rattle.scope.specs.Pack.{Packs};
 ghost use Rattle.scope.specs.Unpack.{Unpacks};
-ghost use Rattle.desk.specs.Open.{Opens};
-ghost use Rattle.desk.specs.Press.{Presses};
+ghost use Rattle.entries.specs.Open.{Opens};
+ghost use Rattle.entries.specs.Press.{Presses};
 
 // Compiling: 0 Done, 1 ROOM, 2 LONG, 3 to 6 SYNTAX, RANGE, DEPTH, POSITIONS with their place, 7 CLASSES, 8 STATES.
 #[no_mangle]

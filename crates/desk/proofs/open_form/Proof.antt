@@ -1,11 +1,11 @@
 -- The count is judged, then the lengths, then the machines; then the count is stored, and zeros after it.
-use mathlib.Core.Path.{refl}
+use mathlib.Core.Path.{refl, _∙_}
 use native.Mathlib.Omega.{arith}
 use borrow.Author.Needs.{needs}
 use borrow.Author.Tests.{not-true, not-false}
 use lib.ListN.{length-set}
-use Rattle.desk.specs.Open.{no-fields, no-room, no-form, opened}
-use Rattle.desk.proofs.Laws.{zeros-shown, zeros-tail}
+use Rattle.entries.specs.Open.{no-fields, no-room, no-form, opened}
+use Rattle.desk.proofs.Opened.{zeros-shown, zeros-tail}
 use Rattle.desk.proofs.open_form.Statement.{statement}
 use Rattle.desk.proofs.open_form.Tie as tie
 
@@ -33,7 +33,7 @@ fill-requires : tie.Need-fill-requires
 fill-requires c κs = (omega arith, omega (arith, c .before .before .before .before .is-lent .ensures .yes (not-false _ (c .before .before .before .if3 .left)) .form-long, length-set (c .before .before .before .before .before .before .before .before .before .before .args .form .now) 0 (c .before .before .before .before .before .before .before .before .before .before .args .count)))
 
 same-length-3 : tie.Need-same-length-3
-same-length-3 c = let a = c .before .before .before .before .before .before .before .before .before .before .before .before .before .args in zeros-tail (a .count) (a .form .now) (c .before .before .fill .ensures) .size
+same-length-3 c = let a = c .before .before .before .before .before .before .before .before .before .before .before .before .before .args in c .before .before .fill .ensures .size ∙ length-set (a .form .now) 0 (a .count)
 
 returns-5 : tie.Need-returns-5
 returns-5 c =

@@ -5,7 +5,7 @@ use borrow.Author.Needs.{needs}
 use borrow.Author.Count.{below-more}
 use borrow.Author.Tests.{not-true, not-false}
 use Rattle.slices.proofs.Laws.{holds, fails}
-use Rattle.forms.specs.Stand.{Filled}
+use Rattle.forms.specs.Test.{Filled}
 use Rattle.forms.proofs.test.are_filled.Statement.{statement}
 use Rattle.forms.proofs.test.are_filled.Tie as tie
 

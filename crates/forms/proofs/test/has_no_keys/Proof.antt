@@ -6,7 +6,7 @@ use native.Mathlib.Omega.{arith}
 use borrow.Author.Needs.{needs}
 use Rattle.slices.proofs.Laws.{holds}
 use Rattle.slices.specs.Parts.{Decides}
-use Rattle.forms.specs.Stand.{NoKeys}
+use Rattle.forms.specs.Test.{NoKeys}
 use Rattle.forms.proofs.Laws.{no-keys, key-found}
 use Rattle.forms.proofs.test.has_no_keys.Statement.{statement}
 use Rattle.forms.proofs.test.has_no_keys.Tie as tie

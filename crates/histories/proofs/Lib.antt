@@ -1,0 +1,5 @@
+pub mod One
+pub mod Open
+pub mod Presses
+pub mod History
+pub mod Given

@@ -1,0 +1,97 @@
+// How the open field stands: one match of its text, or of its text with a byte after it. The place where a text died tells whether it was dead before that byte.
+use forms::LENGTHS_AT;
+use forms::TEXT;
+use forms::TEXTS_AT;
+use scope::Machine;
+use scope::Matched;
+ghost use Prim.Native.Nat.{_+_, _*_, _<_, _≤_};
+ghost use mathlib.Core.List.{[], _∷_, _++_};
+ghost use lib.ListN.{length};
+ghost use Rattle.scope.specs.Room.{Sound};
+ghost use Rattle.slices.specs.Parts.{Decides};
+ghost use Rattle.forms.specs.Form.{textLimit, lengthsAt, textsAt, lengthOf, textOf};
+ghost use Rattle.forms.specs.Text.{roomOf};
+ghost use Rattle.forms.specs.Test.{Plain, Kept};
+ghost use Rattle.standings.specs.Stand.{Stands, Begun, Joined};
+
+// How the text of an open field stands, with a byte after it or not; Lost if no keys lead to the field.
+pub enum Standing {
+    Accepted,
+    Unfinished,
+    Dead,
+    Lost,
+}
+
+// How a text stands, of which the first `kept` bytes are in the field.
+fn of_bytes(room: &[u8], text: &[u8], kept: usize) -> Standing
+    requires { ⌜ kept ≤ length (now text) ⌝ }
+    ensures { λ r. ⌜ Stands (now (room .entry)) (now (text .entry)) kept r ⌝ }
+{
+    let matched = matching::match_text(room, text);
+    match matched {
+        Matched::Accepted => Standing::Accepted,
+        Matched::Unfinished => Standing::Unfinished,
+        Matched::Dead(place) => {
+            if kept == 0 {
+                return Standing::Dead;
+            }
+            if place > kept {
+                return Standing::Dead;
+            }
+            Standing::Lost
+        }
+        Matched::Room => Standing::Lost,
+        Matched::Form => Standing::Lost,
+    }
+}
+
+// How the text of the open field f stands.
+pub fn of_text(rooms: &[u8], form: &[u8], f: usize) -> Standing
+    requires { ⌜ Begun (now rooms) (now form) f × Plain (now form) f ⌝ }
+    ensures { λ r. ⌜ Stands (roomOf (now (rooms .entry)) f) (textOf (now (form .entry)) f) (lengthOf (now (form .entry)) f) r ⌝ }
+{
+    let from = f * Machine::ROOM;
+    let at = TEXTS_AT + f * TEXT;
+    let long = form[LENGTHS_AT + f] as usize;
+    let to = at + long;
+    of_bytes(&rooms[from..], &form[at..to], long)
+}
+
+// Whether some keys lead to the open field f as it is.
+pub fn is_kept(rooms: &[u8], form: &[u8], f: usize) -> bool
+    requires { ⌜ Begun (now rooms) (now form) f × Plain (now form) f ⌝ }
+    ensures { λ r. ⌜ Decides r (Sound (roomOf (now (rooms .entry)) f) × Kept (roomOf (now (rooms .entry)) f) (textOf (now (form .entry)) f)) ⌝ }
+{
+    let standing = of_text(rooms, form, f);
+    match standing {
+        Standing::Accepted => true,
+        Standing::Unfinished => true,
+        Standing::Dead => true,
+        Standing::Lost => false,
+    }
+}
+
+// The text of the field f and a byte after it.
+fn joined(form: &[u8], f: usize, key: u8) -> [u8; TEXT + 1]
+    requires { ⌜ (textsAt + f * textLimit + textLimit ≤ length (now form)) × (lengthsAt + f < length (now form)) × (lengthOf (now form) f < textLimit) ⌝ }
+    ensures { λ r. ⌜ Joined (now (form .entry)) r f key ⌝ }
+{
+    let at = TEXTS_AT + f * TEXT;
+    let long = form[LENGTHS_AT + f] as usize;
+    let mut typed = [0u8; TEXT + 1];
+    slices::copy(&form[at..], &mut typed, long);
+    typed[long] = key;
+    typed
+}
+
+// How the text of the open field f stands with a byte after it.
+pub fn of_typed(rooms: &[u8], form: &[u8], f: usize, key: u8) -> Standing
+    requires { ⌜ Begun (now rooms) (now form) f × Plain (now form) f × (lengthOf (now form) f < textLimit) ⌝ }
+    ensures { λ r. ⌜ Stands (roomOf (now (rooms .entry)) f) (textOf (now (form .entry)) f ++ (key ∷ [])) (lengthOf (now (form .entry)) f) r ⌝ }
+{
+    let typed = joined(form, f, key);
+    let from = f * Machine::ROOM;
+    let long = form[LENGTHS_AT + f] as usize;
+    let to = long + 1;
+    of_bytes(&rooms[from..], &typed[..to], long)
+}
