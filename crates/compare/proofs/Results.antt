@@ -17,11 +17,12 @@ use Rattle.scope.proofs.Agree.{Agree, agree-same}
 use Rattle.scope.proofs.Aside.{rounds-two}
 use Rattle.scope.proofs.Separate.{equal-by, word-within}
 use Rattle.sides.specs.Side.{both}
-use Rattle.parts.specs.Parts.{Alike}
+use Rattle.agree.specs.Parts.{Alike}
 use Rattle.parts.specs.Refined.{Refined}
 use Rattle.parts.proofs.Refined.{refined-together, both-few}
 use Rattle.compare.specs.Twins.{Twins}
-use Rattle.compare.specs.Word.{Apart, Between, Spells, Holds, Answers}
+use Rattle.spelling.specs.Word.{Apart, Between, Spells, Holds}
+use Rattle.compare.specs.Answers.{Answers}
 use Rattle.compare.proofs.Twins.{twins-agree, rounds-twice}
 
 -- the rooms hold one machine

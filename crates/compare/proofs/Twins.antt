@@ -1,26 +1,22 @@
 -- Twins. Two rooms with the same bytes hold the same machine. Side by side no string then tells a state of the second from its fellow in the first: strings that are
 -- enough for the one machine are enough for both, so it has as many rounds alone.
 --   twins-agree: twins hold the same machine
---   rounds-alone: refining the states of one room gives the rounds of its machine
 --   rounds-twice: beside a machine that agrees with it a machine has as many rounds as alone
 use Prim.Native.Nat.{ℕ, _+_, _-_, _*_, _<_}
-use mathlib.Core.Path.{_≡_, refl, sym, ap, _∙_}
+use mathlib.Core.Path.{_≡_, sym, ap, _∙_}
 use mathlib.Core.Logic.{inl, inr}
 use mathlib.Core.List.{List}
 use native.Mathlib.Omega.{arith}
 use lib.Dec.{eqb}
 use Rattle.scope.specs.Limits.{classesAt, marksAt, cellsAt}
 use Rattle.scope.specs.Machine.{Machine, Same, Closed}
-use Rattle.scope.specs.Room.{statesOf, classesOf, classOf, nextOf, machine, Sound}
+use Rattle.scope.specs.Room.{classesOf, classOf, nextOf, machine, Sound}
 use Rattle.scope.specs.Rounds.{aside, Rounds, Enough}
-use Rattle.scope.proofs.Tests.{split, below}
+use Rattle.scope.proofs.Tests.{split}
 use Rattle.scope.proofs.Room.{cell-used}
-use Rattle.scope.proofs.Agree.{Agree, agree-closed, agree-same, agree-rounds}
+use Rattle.scope.proofs.Agree.{Agree, agree-closed, agree-same}
 use Rattle.scope.proofs.Rounds.{rounds-enough}
 use Rattle.scope.proofs.Aside.{aside-closed, left-run, right-run}
-use Rattle.sides.specs.Side.{side}
-use Rattle.parts.specs.Refined.{Refined}
-use Rattle.sides.proofs.Rooms.{next-left}
 use Rattle.compare.specs.Twins.{Twins}
 
 -- the same bytes: the same header, classes, marks and used cells
@@ -31,11 +27,6 @@ twins-agree a b s e = record {
   next = λ q x h k. rw (← e (classesAt + x) (omega arith), ← e 1 (omega arith)) (e (cellsAt + (q * classesOf a + classOf a x)) (omega (arith, cell-used a s q x h k)));
   marks = λ q h. ap (λ (x : ℕ). eqb x 1) (e (marksAt + q) (omega (arith, s .few-states)));
 }
-
--- the states of a room move beside another as they do alone
-pub rounds-alone : (a : List ℕ) {part parent born : List ℕ} {r : ℕ} → Refined (side a a (statesOf a)) part parent born r → Rounds (machine a) r
-rounds-alone a {r = r} d = agree-rounds (side a a (statesOf a)) (machine a) (d .closed)
-    (record { states = refl; next = λ q x h k. next-left a a q x h; marks = λ q h. rw (below q (statesOf a) .full h) refl }) r (d .last)
 
 -- where each state of M accepts the strings of some state of N, what is enough for N is enough for M
 enough : (M N : Machine) → ((q : ℕ) → q < M .states → (p : ℕ) × (p < N .states) × Same M q N p) → (r : ℕ) → Enough N r → Enough M r

@@ -9,7 +9,7 @@
 // Where both rooms hold one machine byte for byte, they are the same, and its states are refined once.
 use scope::Compared;
 use scope::Machine;
-ghost use Prim.Native.Nat.{ℕ, _≤_};
+ghost use Prim.Native.Nat.{_≤_};
 ghost use lib.ListN.{length};
 ghost use Rattle.scope.specs.Answers.{comparedNumber, comparedLength, comparedRounds};
 ghost use Rattle.scope.specs.Compare.{CompareLent, Compares};
@@ -17,9 +17,8 @@ ghost use Rattle.scope.specs.Limits.{wordBytes};
 ghost use Rattle.scope.specs.Room.{machine, Sound};
 ghost use Rattle.scope.specs.Rounds.{Rounds};
 ghost use Rattle.slices.specs.Parts.{Decides};
-ghost use Rattle.sides.specs.Kinds.{Kinds};
 ghost use Rattle.compare.specs.Twins.{Twins};
-ghost use Rattle.compare.specs.Word.{Apart, Between, Spells, Holds, Answers};
+ghost use Rattle.compare.specs.Answers.{Answers};
 
 // Whether the two rooms, the string room and the scratch are long enough.
 fn is_lent(left: &[u8], right: &[u8], word: &[u8], bytes: &[u8], words: &[u64]) -> bool
@@ -37,82 +36,13 @@ fn is_lent(left: &[u8], right: &[u8], word: &[u8], bytes: &[u8], words: &[u64]) 
     slices::is_scratch(bytes, words)
 }
 
-// The first round after which p and q, which lie in two parts, are not together: the length of the shortest string that tells them apart.
-fn distance(
-    part: &[u16; parts::STATES],
-    parent: &[u16; parts::STATES],
-    born: &[u16; parts::STATES],
-    p: usize,
-    q: usize,
-    rounds: usize,
-) -> usize
-    requires { ⌜ Apart (now part) (now parent) (now born) p q rounds ⌝ }
-    ensures { λ d. ⌜ Between (now (part .entry)) (now (parent .entry)) (now (born .entry)) p q rounds d d ⌝ }
-{
-    let mut low: usize = 0;
-    let mut high = rounds;
-    while low < high {
-        let middle = (low + high) / 2;
-        if parts::climb(part, parent, born, p, middle)
-            == parts::climb(part, parent, born, q, middle)
-        {
-            low = middle + 1;
-        } else {
-            high = middle;
-        }
-    }
-    low
-}
-
-// Writes the first of the shortest strings that tell the two starts apart; `long` is their length.
-fn spell(
-    left: &[u8],
-    right: &[u8],
-    part: &[u16; parts::STATES],
-    parent: &[u16; parts::STATES],
-    born: &[u16; parts::STATES],
-    least: &[u8; Machine::BYTES],
-    long: usize,
-    word: &mut [u8],
-)
-    requires { ⌜ Spells (now left) (now right) (now part) (now parent) (now born) long ⌝ }
-    requires { ⌜ ((count : ℕ) × Kinds (now left) (now right) (now least) count) ⌝ }
-    requires { ⌜ long ≤ length (now word) ⌝ }
-    ensures { λ _. ⌜ Holds (now (left .entry)) (now (right .entry)) (now (word .entry)) (now (word .exit)) long ⌝ }
-{
-    let mut p: usize = 0;
-    let mut q = left[0] as usize;
-    let mut at: usize = 0;
-    'walk: loop {
-        let mut i: usize = 0;
-        let mut y = p;
-        let mut z = q;
-        let byte = loop {
-            if at == long {
-                break 'walk;
-            }
-            let x = least[i];
-            y = sides::step(left, right, p, x);
-            z = sides::step(left, right, q, x);
-            let r = long - (at + 1);
-            if parts::climb(part, parent, born, y, r) != parts::climb(part, parent, born, z, r) {
-                break x;
-            }
-            i += 1;
-        };
-        word[at] = byte;
-        p = y;
-        q = z;
-        at += 1;
-    }
-}
-
 // Whether both rooms hold one machine byte for byte, as far as the used cells go.
 fn are_twins(left: &[u8], right: &[u8]) -> bool
     requires { ⌜ Sound (now left) × Sound (now right) ⌝ }
     ensures { λ r. ⌜ Decides r (Twins (now (left .entry)) (now (right .entry))) ⌝ }
 {
-    let cells = left[0] as usize * left[1] as usize;
+    let machine = room::head(left);
+    let cells = machine.states * machine.classes;
     slices::same(left, right, Machine::CELLS_AT + cells)
 }
 
@@ -121,24 +51,9 @@ fn rounds_alone(room: &[u8]) -> usize
     requires { ⌜ Sound (now room) ⌝ }
     ensures { λ r. ⌜ Rounds (machine (now (room .entry))) r ⌝ }
 {
-    let kinds = sides::kinds(room, room, room[1] as usize);
-    let least = kinds.least;
-    let count = kinds.count;
-    let columns = sides::columns(room, &least, count);
+    let mut column = [0u8; Machine::BYTES];
     let mut part = [0u16; parts::STATES];
-    let mut parent = [0u16; parts::STATES];
-    let mut born = [0u16; parts::STATES];
-    parts::refine(
-        room,
-        room,
-        &columns,
-        &columns,
-        count,
-        room[0] as usize,
-        &mut part,
-        &mut parent,
-        &mut born,
-    )
+    parts::refine_alone(room, &mut column, &mut part).rounds
 }
 
 // The answer for two sound rooms.
@@ -150,12 +65,15 @@ fn answer(left: &[u8], right: &[u8], word: &mut [u8]) -> Compared
     if are_twins(left, right) {
         return Compared::Same(rounds_alone(left));
     }
-    let s = left[0] as usize;
+    let s = room::head(left).states;
+    let n = s + room::head(right).states;
     let kinds = sides::kinds(left, right, Machine::BYTES);
     let least = kinds.least;
     let count = kinds.count;
-    let left_columns = sides::columns(left, &least, count);
-    let right_columns = sides::columns(right, &least, count);
+    let mut left_columns = [0u8; Machine::BYTES];
+    let mut right_columns = [0u8; Machine::BYTES];
+    sides::columns(left, &least, count, &mut left_columns);
+    sides::columns(right, &least, count, &mut right_columns);
     let mut part = [0u16; parts::STATES];
     let mut parent = [0u16; parts::STATES];
     let mut born = [0u16; parts::STATES];
@@ -165,7 +83,7 @@ fn answer(left: &[u8], right: &[u8], word: &mut [u8]) -> Compared
         &left_columns,
         &right_columns,
         count,
-        s + right[0] as usize,
+        n,
         &mut part,
         &mut parent,
         &mut born,
@@ -173,8 +91,8 @@ fn answer(left: &[u8], right: &[u8], word: &mut [u8]) -> Compared
     if part[0] == part[s] {
         return Compared::Same(rounds);
     }
-    let long = distance(&part, &parent, &born, 0, s, rounds);
-    spell(left, right, &part, &parent, &born, &least, long, word);
+    let long = spelling::distance(&part, &parent, &born, 0, s, rounds);
+    spelling::spell(left, right, &part, &parent, &born, &least, long, word);
     Compared::Separated(long, rounds)
 }
 

@@ -1,45 +1,36 @@
 -- What the refinement says to those who use it. To compare, it is made of all states of two rooms: `side a b (s + t)` is `aside (machine a) (machine b)`, so that
 -- the laws on `Refined` speak of that machine. To minimise, it is made of the states of one room, which runs alone as it does beside another.
 --   refined-together: in the end two states are in one part exactly if they are together after the last round
---   climbs, climbed-together: two states climb to one part exactly if they are together after that round
 --   both-few: two rooms: there are at most s + t - 2 rounds
 --   left-parts: one room: its parts are the states that no string tells apart
+--   left-rounds: and its rounds are those of its machine
+--   left-alone: so it is refined alone
 use Prim.Native.Nat.{ℕ, _+_, _≤_, _<_}
-use mathlib.Core.Path.{_≡_, refl, sym, _∙_}
+use mathlib.Core.Path.{refl, sym, _∙_}
 use mathlib.Core.Logic.{_↔_}
 use mathlib.Core.List.{List}
 use native.Mathlib.Omega.{arith}
 use lib.ListN.{getD}
 use Rattle.scope.specs.Machine.{Machine, Same}
 use Rattle.scope.specs.Room.{statesOf, machine, Sound}
-use Rattle.scope.specs.Rounds.{Together}
-use Rattle.scope.proofs.Rounds.{together-in, together-flip, together-chain, rests-same}
+use Rattle.scope.specs.Rounds.{Together, Rounds}
+use Rattle.scope.proofs.Tests.{below}
+use Rattle.scope.proofs.Agree.{agree-rounds}
+use Rattle.scope.proofs.Rounds.{together-in, rests-same}
 use Rattle.scope.proofs.Run.{sound-closed}
 use Rattle.scope.proofs.Aside.{left-run, rounds-two}
 use Rattle.sides.specs.Side.{both, side}
-use Rattle.parts.specs.Parts.{Named, Alike}
-use Rattle.parts.specs.Refined.{Refined, PartsOf, Climbs, Climbed}
-use Rattle.parts.proofs.Names.{first-one, named-same, named-told, named-name, named-below}
-use Rattle.parts.proofs.Turns.{together-itself, part-same, part-told}
+use Rattle.sides.specs.Kinds.{Kinds, Column}
+use Rattle.sides.proofs.Rooms.{next-left}
+use Rattle.agree.specs.Parts.{Named, Alike}
+use Rattle.parts.specs.Refined.{Refined, PartsOf, RefinedAlone}
+use Rattle.agree.proofs.Names.{named-same, named-told, named-name, named-below}
+use Rattle.parts.proofs.Turns.{part-same, part-told}
 
 module _ (M : Machine) (part parent born : List ℕ) (k : ℕ) (d : Refined M part parent born k) where
   -- in the end two states are in one part exactly if they are together after the last round
   pub refined-together : (p q : ℕ) → p < M .states → q < M .states → Alike part p q ↔ Together M k p q
   refined-together p q hp hq = (part-same M k (M .states) part (d .named) p q hp hq, part-told M k (M .states) part (d .named) p q hp hq)
-
-  -- the arrays can be climbed to any round
-  pub climbs : (q r : ℕ) → M .states ≤ 256 → q < M .states → r ≤ k → Climbs part parent born q r
-  climbs q r f h l = record { machine = M; rounds = k; refined = d; few = f; is-state = h; past = l }
-
-  -- two states climb to one part exactly if they are together after that round
-  pub climbed-together : (p q r x y : ℕ) → p < M .states → q < M .states → r ≤ k → Climbed part parent born p r x → Climbed part parent born q r y
-      → (x ≡ y) ↔ Together M r p q
-  climbed-together p q r x y hp hq l c e =
-      let f = c M k d hp l in
-      let g = e M k d hq l in (
-        λ z. together-chain M r p x q (together-flip M r x p (f .like)) (rw z (g .like)),
-        λ t. first-one (Together M r) (together-itself M r) (together-flip M r) (together-chain M r) p q x y t f g,
-      )
 
   refined-same : Named (λ p q. Same M p M q) part (M .states)
   refined-same q h =
@@ -88,3 +79,14 @@ module _ (a b part parent born : List ℕ) (rounds : ℕ) (s : Sound a) (t : Sou
             like = λ w g. sym (alone (getD part q 0) (omega (arith, e .low)) w g) ∙ e .like w g ∙ alone q h w g;
             least = λ p l z. e .least p l (λ w g. alone p (omega (arith, e .low)) w g ∙ z w g ∙ sym (alone q h w g));
           }
+
+-- the states of a room move beside another as they do alone
+pub left-rounds : (a b : List ℕ) {part parent born : List ℕ} {r : ℕ} → Refined (side a b (statesOf a)) part parent born r → Rounds (machine a) r
+left-rounds a b {r = r} d = agree-rounds (side a b (statesOf a)) (machine a) (d .closed)
+    (record { states = refl; next = λ q x h k. next-left a b q x h; marks = λ q h. rw (below q (statesOf a) .full h) refl }) r (d .last)
+
+-- kinds, columns and parts of one room beside itself
+pub left-alone : {a least column part parent born : List ℕ} {kinds rounds : ℕ} → Sound a → Kinds a a least kinds → Column a least column kinds
+    → Refined (side a a (statesOf a)) part parent born rounds → RefinedAlone a column part kinds rounds
+left-alone {a} {least} {column} {part} {parent} {born} {kinds} {rounds} s k c d =
+    record { least = least; bytes = k; columns = c; parts = left-parts a a part parent born rounds s s d; last = left-rounds a a d }

@@ -22,10 +22,11 @@ use Rattle.scope.specs.Rounds.{Together, Rests}
 use Rattle.scope.proofs.Tests.{split}
 use Rattle.scope.proofs.Lists.{zeros}
 use Rattle.scope.proofs.Rounds.{together-in, together-flip, together-chain, rests-later, rounds-stop, rounds-bound}
-use Rattle.parts.specs.Parts.{Named, Alike, Agree}
-use Rattle.parts.specs.Round.{Opened, Births}
+use Rattle.sides.specs.Side.{bothLimit}
+use Rattle.agree.specs.Parts.{Named, Alike, Agree}
+use Rattle.round.specs.Round.{Opened, Births}
 use Rattle.parts.specs.Refined.{Birth, Tree, Refined}
-use Rattle.parts.proofs.Names.{named-same, named-told, named-own}
+use Rattle.agree.proofs.Names.{named-same, named-told, named-own}
 
 -- a state is together with itself
 pub together-itself : (M : Machine) (r p : ℕ) → Together M r p p
@@ -158,13 +159,13 @@ pub record After (M : Machine) (part parent born : List ℕ) (r : ℕ) : Type 0 
   pub restless : (k : ℕ) → k < r → Rests M k → ⊥
 
 -- after round 0 every part is born
-pub after-none : (M : Machine) (part : List ℕ) → Named (Together M 0) part (M .states) → After M part (replicate 256 0) (replicate 256 0) 0
+pub after-none : (M : Machine) (part : List ℕ) → Named (Together M 0) part (M .states) → After M part (replicate bothLimit 0) (replicate bothLimit 0) 0
 after-none M part d = record {
   named = d;
   tree = λ x h e. record {
-    by = omega (arith, zeros 256 x);
-    fresh = λ p l k. d x h .least p (omega arith) (rw (zeros 256 x) at k);
-    up = λ l. absurd (omega (arith, zeros 256 x));
+    by = omega (arith, zeros bothLimit x);
+    fresh = λ p l k. d x h .least p (omega arith) (rw (zeros bothLimit x) at k);
+    up = λ l. absurd (omega (arith, zeros bothLimit x));
   };
   restless = λ k h. absurd (omega arith);
 }

@@ -4,15 +4,16 @@
 --   Tree M r part parent born: so for each part after r rounds
 --   Refined M part parent born rounds: the parts, their tree and the number of rounds when nothing splits
 --   PartsOf M part: the parts of M are the states that no string tells apart
---   Climbs part parent born q r: the tree is that of some machine, whose rounds go to r, and q one of its states
---   Climbed part parent born q r x: x begins the part of q after r rounds, whatever machine the tree is of
+--   RefinedAlone a column part kinds rounds: the states of one room when nothing splits: the columns of the kinds of its bytes, its parts, and its rounds
 use Prim.Native.Nat.{ℕ, _-_, _≤_, _<_}
 use mathlib.Core.Path.{_≡_}
 use mathlib.Core.List.{List}
 use lib.ListN.{getD}
 use Rattle.scope.specs.Machine.{Machine, Same, Closed}
+use Rattle.scope.specs.Room.{machine}
 use Rattle.scope.specs.Rounds.{Together, Rounds}
-use Rattle.parts.specs.Parts.{First, Named}
+use Rattle.sides.specs.Kinds.{Kinds, Column}
+use Rattle.agree.specs.Parts.{Named}
 
 pub record Parent (M : Machine) (part parent born : List ℕ) (x : ℕ) : Type 0 where
   pub below : getD parent x 0 < x
@@ -41,13 +42,9 @@ pub record PartsOf (M : Machine) (part : List ℕ) : Type 0 where
   pub same : (p q : ℕ) → p < M .states → q < M .states → getD part p 0 ≡ getD part q 0 → Same M p M q
   pub told : (p q : ℕ) → p < M .states → q < M .states → Same M p M q → getD part p 0 ≡ getD part q 0
 
-pub record Climbs (part parent born : List ℕ) (q r : ℕ) : Type 0 where
-  pub machine : Machine
-  pub rounds : ℕ
-  pub refined : Refined machine part parent born rounds
-  pub few : machine .states ≤ 256
-  pub is-state : q < machine .states
-  pub past : r ≤ rounds
-
-abbrev pub Climbed : List ℕ → List ℕ → List ℕ → ℕ → ℕ → ℕ → Type 0
-Climbed part parent born q r x = (M : Machine) (k : ℕ) → Refined M part parent born k → q < M .states → r ≤ k → First (Together M r) q x
+pub record RefinedAlone (a column part : List ℕ) (kinds rounds : ℕ) : Type 0 where
+  pub least : List ℕ
+  pub bytes : Kinds a a least kinds
+  pub columns : Column a least column kinds
+  pub parts : PartsOf (machine a) part
+  pub last : Rounds (machine a) rounds

@@ -1,14 +1,15 @@
--- Kinds of bytes, found in one pass: a byte is of a new kind exactly if no least byte of a kind so far has its classes.
+-- Kinds of bytes, found in one pass: a byte is of a new kind exactly if no least byte of a kind so far has its classes. So they are numbered on first arrival.
 --   class-small, pair-one: classes are below 64, so a pair of them is one number
---   kinds-first, kinds-old, kinds-new: the kinds of the byte 0; a byte more is of the kind of one before it, or of a new one
+--   Numbering: the bytes below e are numbered by their kinds
 --   level-none, level-more, level-not: a stretch of bytes with the class of the byte before, so far
 --   Passed, passed-first, passed-same, passed-level, passed-old, passed-new, passed-full, passed-all: the pass, its turns, and where it ends
+--   passed-byte, passed-few: the least bytes so far are bytes that were passed, and so many
 --   most-bytes, most-classes: there are at most 256 kinds; for one room at most as many as classes
 --   columns-of, least-bytes: the classes of the least bytes are the columns; these are bytes
---   Cell m q c, left-cell, right-cell: the cell of a state and a kind lies in the room, and is a state
+--   left-class, right-class: a column has a class of its room
 --   kind-next, kind-before: a byte leads where the least byte of its kind does; a byte below it is of a smaller kind
 use Prim.Native.Nat.{ℕ, zero, suc, _+_, _-_, _*_, _≤_, _<_}
-use mathlib.Core.Path.{_≡_, refl, sym, _∙_}
+use mathlib.Core.Path.{_≡_, refl, sym, ap, _∙_}
 use mathlib.Core.Bool.{Bool, true, false}
 use mathlib.Core.Logic.{_⊎_, inl, inr}
 use mathlib.Core.List.{List}
@@ -16,17 +17,17 @@ use native.Mathlib.Omega.{arith}
 use native.Mathlib.Decide.{ℕ-discrete}
 use borrow.Author.Count.{below-more}
 use lib.Seq.{getD-set-same, getD-set-other}
-use lib.ListN.{getD, set, replicate, length-set}
-use Rattle.scope.specs.Limits.{byteValues, classLimit, classesAt, cellsAt, roomBytes}
-use Rattle.scope.specs.Room.{statesOf, classesOf, classOf, cellOf, nextOf, Below, Sound}
-use Rattle.scope.proofs.Room.{cell-used, cells-fit}
+use lib.ListN.{length, getD, set, replicate, length-set}
+use Rattle.scope.specs.Limits.{byteValues, classLimit, classesAt}
+use Rattle.scope.specs.Room.{classesOf, classOf, nextOf, Below, Sound}
 use Rattle.scope.proofs.Tests.{split}
-use Rattle.scope.proofs.Hole.{pigeon}
 use Rattle.scope.proofs.Lists.{zeros}
 use Rattle.slices.specs.Parts.{Decides}
+use Rattle.slices.specs.Numbered.{Found, Came, Numbered}
 use Rattle.slices.proofs.Laws.{holds, fails}
+use Rattle.slices.proofs.Numbered.{numbered-none, numbered-old, numbered-new, numbered-one, numbered-few, numbered-fewer}
 use Rattle.sides.specs.Side.{both}
-use Rattle.sides.specs.Kinds.{pairOf, stretch, Level, KindAt, KindsTo, KindsOf, Kinds, Most, Column, Used, ColumnsOf}
+use Rattle.sides.specs.Kinds.{pairOf, stretch, Level, KindsOf, Kinds, Most, Column, Used, ColumnsOf}
 
 -- a byte's class is below 64
 pub class-small : (m : List ℕ) (x : ℕ) → Sound m → x < byteValues → classOf m x < classLimit
@@ -36,94 +37,53 @@ class-small m x s h = omega (arith, s .classes (classesAt + x) (omega arith) (om
 pair-one : (a b : List ℕ) (x y : ℕ) → Sound b → x < byteValues → y < byteValues → pairOf a b x ≡ pairOf a b y → (classOf a x ≡ classOf a y) × (classOf b x ≡ classOf b y)
 pair-one a b x y t hx hy e = omega (arith, class-small b x t hx, class-small b y t hy)
 
--- the byte 0 is of the kind 0
-pub kinds-first : (a b : List ℕ) → KindsTo a b (replicate 256 0) (replicate 256 0) 1 1
-kinds-first a b = record {
-  kind-long = refl;
-  least-long = refl;
-  some = omega arith;
-  few = omega arith;
-  below = λ x h. omega (arith, zeros 256 x);
-  low = λ x h. omega (arith, zeros 256 (getD (replicate 256 0) x 0));
-  left = λ x h. rw (zeros 256 (getD (replicate 256 0) x 0), zero x h) refl;
-  right = λ x h. rw (zeros 256 (getD (replicate 256 0) x 0), zero x h) refl;
-  one = λ x y h k c d. zeros 256 x ∙ sym (zeros 256 y);
-  byte = λ i h. omega (arith, zeros 256 i);
-  own = λ i h. zeros 256 (getD (replicate 256 0) i 0) ∙ sym (zero i h);
-  rising = λ i j h k. absurd (omega arith);
+-- ---- the kinds are numbers, and their least bytes lead them
+
+-- one class in each room
+abbrev Like : List ℕ → List ℕ → ℕ → ℕ → Type 0
+Like a b x y = pairOf a b x ≡ pairOf a b y
+
+-- the bytes below e are numbered by their kinds
+abbrev pub Numbering : List ℕ → List ℕ → List ℕ → List ℕ → ℕ → ℕ → Type 0
+Numbering a b kind least count e = Numbered (Like a b) (λ x. x) (λ x. getD kind x 0) (λ i. getD least i 0) 0 count e
+
+module _ (a b kind least : List ℕ) {count e : ℕ} (n : Numbering a b kind least count e) where
+  -- the least bytes are among those that were read
+  byte : (i : ℕ) → i < count → getD least i 0 < e
+  byte i l = let c = n .came i l (omega arith) in omega (arith, c .inside, c .leads)
+
+  -- so there are at most as many kinds
+  few : count ≤ e
+  few = numbered-few n e (λ x. x) byte (λ v w h l q. rw q refl)
+
+-- the kinds of all bytes
+kinds-of : (a b kind least : List ℕ) {count : ℕ} → Sound b → Numbering a b kind least count byteValues → KindsOf a b kind least count
+kinds-of a b kind least {count} t n = record {
+  few = few a b kind least n;
+  below = n .below;
+  low = λ x h. let c = came (getD kind x 0) (n .below x h) in elim (split x (c .thing)) [ inl l ↦ absurd (omega (arith, c .earlier x l)) | inr l ↦ omega (arith, c .leads) ];
+  left = λ x h. like x h .0;
+  right = λ x h. like x h .1;
+  one = λ x y h l c d. numbered-one n (λ p q e. sym e) (λ p q r e f. e ∙ f) x y h l .1 (rw (c, d) refl);
+  byte = byte a b kind least n;
+  own = own;
+  rising = λ i j l m. elim (split (getD least i 0) (getD least j 0)) [
+    | inl y ↦ y
+    | inr y ↦ elim (split (getD least j 0) (getD least i 0)) [
+      | inl z ↦ (let c = came i (omega arith) in absurd (omega (arith, c .earlier (getD least j 0) (omega (arith, c .leads)), own j l)))
+      | inr z ↦ (let q : getD least i 0 ≡ getD least j 0 = omega arith in absurd (omega (arith, own i (omega arith), own j l, ap (λ (x : ℕ). getD kind x 0) q)))
+    ]
+  ];
 }
   where
-    zero : (x : ℕ) → x < 1 → x ≡ 0
-    zero x h = omega arith
+    came : (i : ℕ) → i < count → Came (λ x. x) (λ x. getD kind x 0) (λ i. getD least i 0) i byteValues
+    came i l = n .came i l (omega arith)
 
-module _ (a b kind least : List ℕ) (count x : ℕ) (t : Sound b) (h : x < byteValues) (k : KindsTo a b kind least count x) where
-  off : (v z : ℕ) → z < x → getD (set kind x v) z 0 ≡ getD kind z 0
-  off v z l = getD-set-other kind x z v 0 (λ e. omega arith)
+    like : (x : ℕ) → x < byteValues → (classOf a (getD least (getD kind x 0) 0) ≡ classOf a x) × (classOf b (getD least (getD kind x 0) 0) ≡ classOf b x)
+    like x h = pair-one a b (getD least (getD kind x 0) 0) x t (byte a b kind least n (getD kind x 0) (n .below x h)) h (n .like x h)
 
-  at : (v : ℕ) → getD (set kind x v) x 0 ≡ v
-  at v = getD-set-same kind x v 0 (omega (arith, k .kind-long))
-
-  -- two bytes up to x of the same classes have one kind if the bytes below x with those of x have that of x
-  one-more : (v : ℕ) → ((z : ℕ) → z < x → classOf a z ≡ classOf a x → classOf b z ≡ classOf b x → getD kind z 0 ≡ v)
-      → (y z : ℕ) → y < x + 1 → z < x + 1 → classOf a y ≡ classOf a z → classOf b y ≡ classOf b z → getD (set kind x v) y 0 ≡ getD (set kind x v) z 0
-  one-more v f y z hy hz c d = elim (split y x) [
-    | inl l ↦ elim (split z x) [
-      | inl m ↦ off v y l ∙ k .one y z l m c d ∙ sym (off v z m)
-      | inr m ↦ (let e : z ≡ x = omega arith in off v y l ∙ f y l (rw e at c) (rw e at d) ∙ sym (rw e (at v)))
-    ]
-    | inr l ↦ (let e : y ≡ x = omega arith in elim (split z x) [
-      | inl m ↦ rw e (at v) ∙ sym (off v z m ∙ f z m (sym (rw e at c)) (sym (rw e at d)))
-      | inr m ↦ (let g : z ≡ x = omega arith in rw (e, g) refl)
-    ])
-  ]
-
-  -- a byte y below x has the classes of x: x is of its kind
-  pub kinds-old : (y : ℕ) → y < x → pairOf a b y ≡ pairOf a b x → KindsTo a b (set kind x (getD kind y 0)) least count (x + 1)
-  kinds-old y m e =
-      let i = getD kind y 0 in
-      let (l, r) = pair-one a b y x t (omega arith) h e in
-      record {
-        kind-long = length-set kind x i ∙ k .kind-long;
-        least-long = k .least-long;
-        some = k .some;
-        few = omega (arith, k .few);
-        below = below-more (λ (z : ℕ). getD (set kind x i) z 0 < count) x (λ z n. rw (off i z n) (k .below z n)) (rw (at i) (k .below y m));
-        low = below-more (λ (z : ℕ). getD least (getD (set kind x i) z 0) 0 ≤ z) x (λ z n. rw (off i z n) (k .low z n)) (rw (at i) (omega (arith, k .low y m)));
-        left = below-more (λ (z : ℕ). classOf a (getD least (getD (set kind x i) z 0) 0) ≡ classOf a z) x (λ z n. rw (off i z n) (k .left z n)) (rw (at i) (k .left y m ∙ l));
-        right = below-more (λ (z : ℕ). classOf b (getD least (getD (set kind x i) z 0) 0) ≡ classOf b z) x (λ z n. rw (off i z n) (k .right z n)) (rw (at i) (k .right y m ∙ r));
-        one = one-more i (λ z n c d. k .one z y n m (c ∙ sym l) (d ∙ sym r));
-        byte = λ j n. omega (arith, k .byte j n);
-        own = λ j n. off i (getD least j 0) (k .byte j n) ∙ k .own j n;
-        rising = k .rising;
-      }
-
-  -- no kind has them: x is the least byte of a new one
-  pub kinds-new : ((i : ℕ) → i < count → pairOf a b (getD least i 0) ≡ pairOf a b x → ⊥) → KindsTo a b (set kind x count) (set least count x) (count + 1) (x + 1)
-  kinds-new none =
-      let kind′ = set kind x count in
-      let least′ = set least count x in
-      let here : getD least′ count 0 ≡ x = getD-set-same least count x 0 (omega (arith, k .least-long, k .few)) in
-      let away : (i : ℕ) → i < count → getD least′ i 0 ≡ getD least i 0 = λ i l. getD-set-other least count i x 0 (λ e. omega arith) in
-      record {
-        kind-long = length-set kind x count ∙ k .kind-long;
-        least-long = length-set least count x ∙ k .least-long;
-        some = omega arith;
-        few = omega (arith, k .few);
-        below = below-more (λ (z : ℕ). getD kind′ z 0 < count + 1) x (λ z l. rw (off count z l) (omega (arith, k .below z l))) (rw (at count) (omega arith));
-        low = below-more (λ (z : ℕ). getD least′ (getD kind′ z 0) 0 ≤ z) x (λ z l. rw (off count z l, away (getD kind z 0) (k .below z l)) (k .low z l)) (rw (at count, here) (omega arith));
-        left = below-more (λ (z : ℕ). classOf a (getD least′ (getD kind′ z 0) 0) ≡ classOf a z) x
-            (λ z l. rw (off count z l, away (getD kind z 0) (k .below z l)) (k .left z l)) (rw (at count, here) refl);
-        right = below-more (λ (z : ℕ). classOf b (getD least′ (getD kind′ z 0) 0) ≡ classOf b z) x
-            (λ z l. rw (off count z l, away (getD kind z 0) (k .below z l)) (k .right z l)) (rw (at count, here) refl);
-        one = one-more count (λ z l c d. absurd (none (getD kind z 0) (k .below z l) (rw (k .left z l, k .right z l, c, d) refl)));
-        byte = below-more (λ (i : ℕ). getD least′ i 0 < x + 1) count (λ i l. rw (away i l) (omega (arith, k .byte i l))) (rw here (omega arith));
-        own = below-more (λ (i : ℕ). getD kind′ (getD least′ i 0) 0 ≡ i) count
-            (λ i l. rw (away i l, off count (getD least i 0) (k .byte i l)) (k .own i l)) (rw (here, at count) refl);
-        rising = λ i j l m. elim (split j count) [
-          | inl y ↦ omega (arith, away i (omega arith), away j y, k .rising i j y m)
-          | inr y ↦ (let e : j ≡ count = omega arith in rw (e, here, away i (omega arith)) (k .byte i (omega arith)))
-        ];
-      }
+    own : (i : ℕ) → i < count → getD kind (getD least i 0) 0 ≡ i
+    own i l = let c = came i l in rw (c .leads) at (c .own)
 
 -- ---- stretches
 
@@ -147,46 +107,96 @@ module _ (m : List ℕ) (x y : ℕ) {b : Bool} (low : x ≤ y) (d : Decides b (L
 -- the pass has come to the byte x, and the byte before x has the classes `last`
 pub record Passed (a b least : List ℕ) (count last x : ℕ) : Type 0 where
   pub kind : List ℕ
-  pub kinds : KindsTo a b kind least count x
+  pub kind-long : length kind ≡ byteValues
+  pub least-long : length least ≡ byteValues
+  pub numbered : Numbering a b kind least count x
   pub before : ℕ
   pub is-before : before + 1 ≡ x
   pub classes : last ≡ pairOf a b before
 
-pub passed-first : (a b : List ℕ) (p : ℕ) → p ≡ pairOf a b 0 → Passed a b (replicate 256 0) 1 p 1
-passed-first a b p e = record { kind = replicate 256 0; kinds = kinds-first a b; before = 0; is-before = refl; classes = e }
+-- the byte 0 is of the kind 0
+pub passed-first : (a b : List ℕ) (p : ℕ) → p ≡ pairOf a b 0 → Passed a b (replicate byteValues 0) 1 p 1
+passed-first a b p e = record {
+  kind = replicate byteValues 0;
+  kind-long = refl;
+  least-long = refl;
+  numbered = numbered-new none (λ x. x) zero zero (λ x h. refl) (λ x h. refl) (λ v h. refl) (zeros byteValues 0) (zeros byteValues 0) refl (λ v h. absurd (omega arith));
+  before = 0;
+  is-before = refl;
+  classes = e;
+}
+  where
+    zero : ℕ → ℕ
+    zero x = getD (replicate byteValues 0) x 0
+
+    none : Numbered (Like a b) (λ x. x) zero zero 0 0 0
+    none = numbered-none (omega arith)
+
+module _ {a b least : List ℕ} {count last x : ℕ} (g : Passed a b least count last x) where
+  -- the least bytes are bytes that were passed
+  pub passed-byte : (i : ℕ) → i < count → getD least i 0 < x
+  passed-byte = byte a b (g .kind) least (g .numbered)
+
+  -- and there are at most as many kinds
+  pub passed-few : count ≤ x
+  passed-few = few a b (g .kind) least (g .numbered)
+
+  -- all bytes are passed
+  pub passed-all : Sound b → x ≡ byteValues → Kinds a b least count
+  passed-all t e = record { kind = g .kind; are = kinds-of a b (g .kind) least t (rw e at (g .numbered)) }
 
 -- p: the classes of x
-module _ (a b least : List ℕ) (count last x p : ℕ) (t : Sound b) (h : x < byteValues) (g : Passed a b least count last x) (e : p ≡ pairOf a b x) where
+module _ (a b least : List ℕ) (count last x p : ℕ) (h : x < byteValues) (g : Passed a b least count last x) (e : p ≡ pairOf a b x) where
+  at : (v : ℕ) → getD (set (g .kind) x v) x 0 ≡ v
+  at v = getD-set-same (g .kind) x v 0 (omega (arith, g .kind-long))
+
+  off : (v z : ℕ) → z < x → getD (set (g .kind) x v) z 0 ≡ getD (g .kind) z 0
+  off v z l = getD-set-other (g .kind) x z v 0 (λ q. omega arith)
+
   -- x is of the kind of y
   like : (y : ℕ) → y < x → pairOf a b y ≡ p → Passed a b least count p (x + 1)
-  like y l m = record { kind = set (g .kind) x (getD (g .kind) y 0); kinds = kinds-old a b (g .kind) least count x t h (g .kinds) y l (m ∙ e); before = x; is-before = refl; classes = e }
+  like y l m = let i = getD (g .kind) y 0 in
+      record {
+        kind = set (g .kind) x i;
+        kind-long = length-set (g .kind) x i ∙ g .kind-long;
+        least-long = g .least-long;
+        numbered = numbered-old (g .numbered) (λ z. z) (λ z. getD (set (g .kind) x i) z 0) (λ v. getD least v 0) (λ z q. refl) (off i) (λ v q. refl)
+            (rw (at i) (g .numbered .below y l)) (rw (at i) (g .numbered .like y l ∙ m ∙ e));
+        before = x;
+        is-before = refl;
+        classes = e;
+      }
 
   -- it has the classes of the byte before it
   pub passed-same : p ≡ last → Passed a b least count last (x + 1)
   passed-same m = rw (← m) (like (g .before) (omega (arith, g .is-before)) (sym (g .classes) ∙ sym m))
 
   -- or those of the kind r
-  pub passed-old : (r : ℕ) → KindAt a b least count p r → (r ≡ count → ⊥) → Passed a b least count p (x + 1)
-  passed-old r f n = let l : r < count = omega (arith, f .few) in like (getD least r 0) (g .kinds .byte r l) (f .here l)
+  pub passed-old : (r : ℕ) → Found (λ i. pairOf a b (getD least i 0) ≡ p) count r → (r ≡ count → ⊥) → Passed a b least count p (x + 1)
+  passed-old r f n = let l : r < count = omega (arith, f .most) in like (getD least r 0) (passed-byte g r l) (f .has l)
 
   -- or is of a new kind
-  pub passed-new : KindAt a b least count p count → Passed a b (set least count x) (count + 1) p (x + 1)
+  pub passed-new : Found (λ i. pairOf a b (getD least i 0) ≡ p) count count → Passed a b (set least count x) (count + 1) p (x + 1)
   passed-new f = record {
     kind = set (g .kind) x count;
-    kinds = kinds-new a b (g .kind) least count x t h (g .kinds) (λ j l m. f .none refl j l (m ∙ sym e));
+    kind-long = length-set (g .kind) x count ∙ g .kind-long;
+    least-long = length-set least count x ∙ g .least-long;
+    numbered = numbered-new (g .numbered) (λ z. z) (λ z. getD (set (g .kind) x count) z 0) (λ v. getD (set least count x) v 0) (λ z q. refl) (off count)
+        (λ v l. getD-set-other least count v x 0 (λ q. omega arith)) (at count) (getD-set-same least count x 0 (omega (arith, g .least-long, passed-few g))) refl
+        (λ v l m. f .none v l (m ∙ sym e));
     before = x;
     is-before = refl;
     classes = e;
   }
 
-module _ (a b least : List ℕ) (count : ℕ) (t : Sound b) where
+module _ (a b least : List ℕ) (count : ℕ) where
   level-on : (d : ℕ) (last x : ℕ) → x + d ≤ byteValues → Passed a b least count last x → Level a x (x + d) → Level b x (x + d) → Passed a b least count last (x + d)
   level-on zero last x h g l r = (let z : x + 0 ≡ x = omega arith in rw z g)
   level-on (suc d) last x h g l r =
       let e : x - 1 ≡ g .before = omega (arith, g .is-before) in
       let z : x + suc d ≡ x + 1 + d = omega arith in
       let same : last ≡ pairOf a b x = g .classes ∙ rw (l x (omega arith) (omega arith), r x (omega arith) (omega arith), e) refl in
-      rw z (level-on d last (x + 1) (omega arith) (passed-same a b least count last x last t (omega arith) g same refl) (λ y i k. l y (omega arith) (omega arith)) (λ y i k. r y (omega arith) (omega arith)))
+      rw z (level-on d last (x + 1) (omega arith) (passed-same a b least count last x last (omega arith) g same refl) (λ y i k. l y (omega arith) (omega arith)) (λ y i k. r y (omega arith) (omega arith)))
 
   -- a stretch that is level in both rooms: all are of the kind of the byte before it
   pub passed-level : {last x : ℕ} → x + stretch ≤ byteValues → Passed a b least count last x → Level a x (x + stretch) → Level b x (x + stretch) → Passed a b least count last (x + stretch)
@@ -203,47 +213,31 @@ seek a b least (suc count) x = elim (seek a b least count x) [
   ]
 ]
 
-module _ (a b : List ℕ) (most : ℕ) (t : Sound b) (m : Most a b most) where
+module _ (a b : List ℕ) (most : ℕ) (t : Sound b) (m : Most a b most) (least : List ℕ) (count : ℕ) (full : most ≤ count) where
   -- where there are as many kinds as there can be, a byte more is of one of them
-  known : (kind least : List ℕ) (count x : ℕ) → x < byteValues → KindsTo a b kind least count x → most ≤ count
-      → (i : ℕ) × (i < count) × (pairOf a b (getD least i 0) ≡ pairOf a b x)
-  known kind least count x h k full = elim (seek a b least count x) [ inl w ↦ w | inr n ↦ absurd (omega (arith, pigeon At (count + 1) most place (one n))) ]
+  known : (last x : ℕ) → x < byteValues → Passed a b least count last x → (i : ℕ) × (i < count) × (pairOf a b (getD least i 0) ≡ pairOf a b x)
+  known last x h g = elim (seek a b least count x) [
+    | inl w ↦ w
+    | inr n ↦ absurd (omega (
+      arith,
+      numbered-fewer (g .numbered) most (m .number) (λ i l. m .below (getD least i 0) (is-byte i l))
+          (λ i j l k. m .alike (getD least i 0) (getD least j 0) (is-byte i l) (is-byte j k)) x (m .below x h) (λ i l q. n i l (m .alike (getD least i 0) x (is-byte i l) h q)),
+    ))
+  ]
     where
-      -- the number of the kind i, or of the byte x as one kind more
-      At : ℕ → ℕ → Type 0
-      At i v = ((i < count) × (m .number (getD least i 0) ≡ v)) ⊎ ((i ≡ count) × (m .number x ≡ v))
+      is-byte : (i : ℕ) → i < count → getD least i 0 < byteValues
+      is-byte i l = omega (arith, passed-byte g i l)
 
-      place : (i : ℕ) → i < count + 1 → (v : ℕ) × (v < most) × At i v
-      place i l = elim (split i count) [
-        | inl y ↦ (m .number (getD least i 0), m .below (getD least i 0) (omega (arith, k .byte i y)), inl (y, refl))
-        | inr y ↦ (m .number x, m .below x h, inr (omega arith, refl))
-      ]
-
-      same : (i j : ℕ) → i < count → j < count → pairOf a b (getD least i 0) ≡ pairOf a b (getD least j 0) → i ≡ j
-      same i j hi hj e =
-          let (l, r) = pair-one a b (getD least i 0) (getD least j 0) t (omega (arith, k .byte i hi)) (omega (arith, k .byte j hj)) e in
-          sym (k .own i hi) ∙ k .one (getD least i 0) (getD least j 0) (k .byte i hi) (k .byte j hj) l r ∙ k .own j hj
-
-      one : ((i : ℕ) → i < count → pairOf a b (getD least i 0) ≡ pairOf a b x → ⊥) → (i j v : ℕ) → At i v → At j v → i ≡ j
-      one n i j v (inl y) (inl z) = same i j (y .0) (z .0) (m .alike (getD least i 0) (getD least j 0) (omega (arith, k .byte i (y .0))) (omega (arith, k .byte j (z .0))) (y .1 ∙ sym (z .1)))
-      one n i j v (inl y) (inr z) = absurd (n i (y .0) (m .alike (getD least i 0) x (omega (arith, k .byte i (y .0))) h (y .1 ∙ sym (z .1))))
-      one n i j v (inr y) (inl z) = absurd (n j (z .0) (m .alike (getD least j 0) x (omega (arith, k .byte j (z .0))) h (z .1 ∙ sym (y .1))))
-      one n i j v (inr y) (inr z) = omega (arith, y .0, z .0)
-
-  rest : (d : ℕ) (kind least : List ℕ) (count x : ℕ) → x + d ≡ byteValues → KindsTo a b kind least count x → most ≤ count → Kinds a b least count
-  rest zero kind least count x e k full = record { kind = kind; are = (let z : x ≡ byteValues = omega arith in rw z at k) }
-  rest (suc d) kind least count x e k full =
+  rest : (d last x : ℕ) → x + d ≡ byteValues → Passed a b least count last x → Kinds a b least count
+  rest zero last x e g = passed-all g t (omega arith)
+  rest (suc d) last x e g =
       let h : x < byteValues = omega arith in
-      let (i, l, w) = known kind least count x h k full in
-      rest d (set kind x (getD kind (getD least i 0) 0)) least count (x + 1) (omega arith) (kinds-old a b kind least count x t h k (getD least i 0) (k .byte i l) w) full
+      let (i, l, w) = known last x h g in
+      rest d (pairOf a b x) (x + 1) (omega arith) (like a b least count last x (pairOf a b x) h g refl (getD least i 0) (passed-byte g i l) w)
 
   -- so the pass can stop there
-  pub passed-full : {least : List ℕ} {count last x : ℕ} → x ≤ byteValues → Passed a b least count last x → most ≤ count → Kinds a b least count
-  passed-full {least} {count} {last} {x} h g full = rest (byteValues - x) (g .kind) least count x (omega arith) (g .kinds) full
-
--- or with the last byte
-pub passed-all : {a b least : List ℕ} {count last x : ℕ} → x ≡ byteValues → Passed a b least count last x → Kinds a b least count
-passed-all e g = record { kind = g .kind; are = rw e at (g .kinds) }
+  pub passed-full : {last x : ℕ} → x ≤ byteValues → Passed a b least count last x → Kinds a b least count
+  passed-full {last} {x} h g = rest (byteValues - x) last x (omega arith) g
 
 -- there are at most as many kinds as bytes
 pub most-bytes : (a b : List ℕ) → Most a b byteValues
@@ -271,23 +265,14 @@ module _ {a b least : List ℕ} {count : ℕ} (k : Kinds a b least count) where
   pub least-bytes : (count ≤ byteValues) × Below least 0 count byteValues
   least-bytes = (k .are .few, λ i h g. k .are .byte i h)
 
--- the cell of the state q and the class c lies in the room, and is a state
-abbrev pub Cell : List ℕ → ℕ → ℕ → Type 0
-Cell m q c = (cellsAt + (q * classesOf m + c) < roomBytes) × (cellOf m q c < statesOf m) × (c < classLimit)
+module _ {a b left right : List ℕ} {i : ℕ} (u : Used a b left right i) where
+  -- the class of a kind is one of the room a
+  pub left-class : Sound a → getD left i 0 < classesOf a
+  left-class s = rw (u .has .left) (s .classes (classesAt + u .byte) (omega (arith, u .has .is-byte)) (omega arith))
 
-cell-state : (m : List ℕ) (q c x : ℕ) → Sound m → q < statesOf m → x < byteValues → c ≡ classOf m x → Cell m q c
-cell-state m q c x s h k e =
-    let used : q * classesOf m + c < statesOf m * classesOf m = rw e (cell-used m s q x h k) in
-    (omega (arith, cells-fit m s), s .cells (cellsAt + (q * classesOf m + c)) (omega arith) (omega arith), omega (arith, class-small m x s k))
-
-module _ (a b left right : List ℕ) (q i : ℕ) (u : Used a b left right i) where
-  -- so it is for a state of a and a kind
-  pub left-cell : Sound a → q < statesOf a → Cell a q (getD left i 0)
-  left-cell s h = cell-state a q (getD left i 0) (u .byte) s h (u .has .is-byte) (u .has .left)
-
-  -- and for a state of b
-  pub right-cell : Sound b → q < statesOf b → Cell b q (getD right i 0)
-  right-cell t h = cell-state b q (getD right i 0) (u .byte) t h (u .has .is-byte) (u .has .right)
+  -- and of b
+  pub right-class : Sound b → getD right i 0 < classesOf b
+  right-class t = rw (u .has .right) (t .classes (classesAt + u .byte) (omega (arith, u .has .is-byte)) (omega arith))
 
 -- ---- for whoever goes over the least bytes
 

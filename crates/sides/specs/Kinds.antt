@@ -1,17 +1,16 @@
 -- Kinds of bytes: two bytes are of one kind exactly if they have one class in the room a and one in the room b. Kinds are numbered by their least byte.
 --   pairOf a b x: the two classes of the byte x, as one number
---   KindsTo a b kind least count e: the kinds that the bytes below e have: kind has the kind of each byte, least the least byte of each kind
---   KindsOf a b kind least count: the kinds of all bytes; Kinds a b least count: so for some list of the kind of each byte
+--   KindsOf a b kind least count: the kinds of the bytes: kind has the kind of each byte, least the least byte of each kind
+--   Kinds a b least count: so for some list of the kind of each byte
 --   Level m x e: each byte from x up to e has the class of the byte before it, in the room m; stretch: so many bytes are passed over at once where they are level
 --   Most a b most: there are at most `most` kinds: the bytes have numbers below it, and those with one number are of one kind
---   KindAt a b least count p i: i is the kind with the classes p, count if there is none
 --   Has a b c d x, Used a b left right i: the byte x has the classes c and d; some byte has those of the kind i
 --   Column m least column count: column has the class of the least byte of each kind in the room m
 --   ColumnsOf a b left right count: left and right have the classes of each kind in a and in b, and of nothing else
 use Prim.Native.Nat.{ℕ, _+_, _-_, _*_, _≤_, _<_}
 use mathlib.Core.Path.{_≡_}
 use mathlib.Core.List.{List}
-use lib.ListN.{length, getD, replicate}
+use lib.ListN.{getD, replicate}
 use Rattle.scope.specs.Limits.{byteValues, classLimit}
 use Rattle.scope.specs.Room.{classOf}
 use Rattle.scope.specs.Buffers.{Written}
@@ -19,22 +18,16 @@ use Rattle.scope.specs.Buffers.{Written}
 abbrev pub pairOf : List ℕ → List ℕ → ℕ → ℕ
 pairOf a b x = classOf a x * classLimit + classOf b x
 
-pub record KindsTo (a b kind least : List ℕ) (count e : ℕ) : Type 0 where
-  pub kind-long : length kind ≡ byteValues
-  pub least-long : length least ≡ byteValues
-  pub some : 1 ≤ count
-  pub few : count ≤ e
-  pub below : (x : ℕ) → x < e → getD kind x 0 < count
-  pub low : (x : ℕ) → x < e → getD least (getD kind x 0) 0 ≤ x
-  pub left : (x : ℕ) → x < e → classOf a (getD least (getD kind x 0) 0) ≡ classOf a x
-  pub right : (x : ℕ) → x < e → classOf b (getD least (getD kind x 0) 0) ≡ classOf b x
-  pub one : (x y : ℕ) → x < e → y < e → classOf a x ≡ classOf a y → classOf b x ≡ classOf b y → getD kind x 0 ≡ getD kind y 0
-  pub byte : (i : ℕ) → i < count → getD least i 0 < e
+pub record KindsOf (a b kind least : List ℕ) (count : ℕ) : Type 0 where
+  pub few : count ≤ byteValues
+  pub below : (x : ℕ) → x < byteValues → getD kind x 0 < count
+  pub low : (x : ℕ) → x < byteValues → getD least (getD kind x 0) 0 ≤ x
+  pub left : (x : ℕ) → x < byteValues → classOf a (getD least (getD kind x 0) 0) ≡ classOf a x
+  pub right : (x : ℕ) → x < byteValues → classOf b (getD least (getD kind x 0) 0) ≡ classOf b x
+  pub one : (x y : ℕ) → x < byteValues → y < byteValues → classOf a x ≡ classOf a y → classOf b x ≡ classOf b y → getD kind x 0 ≡ getD kind y 0
+  pub byte : (i : ℕ) → i < count → getD least i 0 < byteValues
   pub own : (i : ℕ) → i < count → getD kind (getD least i 0) 0 ≡ i
   pub rising : (i j : ℕ) → j < count → i < j → getD least i 0 < getD least j 0
-
-abbrev pub KindsOf : List ℕ → List ℕ → List ℕ → List ℕ → ℕ → Type 0
-KindsOf a b kind least count = KindsTo a b kind least count byteValues
 
 pub record Kinds (a b least : List ℕ) (count : ℕ) : Type 0 where
   pub kind : List ℕ
@@ -50,11 +43,6 @@ stretch = 16
 
 abbrev pub Level : List ℕ → ℕ → ℕ → Type 0
 Level m x e = (y : ℕ) → y < e → x ≤ y → classOf m y ≡ classOf m (y - 1)
-
-pub record KindAt (a b least : List ℕ) (count p i : ℕ) : Type 0 where
-  pub few : i ≤ count
-  pub here : i < count → pairOf a b (getD least i 0) ≡ p
-  pub none : i ≡ count → (j : ℕ) → j < count → pairOf a b (getD least j 0) ≡ p → ⊥
 
 -- the byte x has the classes c and d
 pub record Has (a b : List ℕ) (c d x : ℕ) : Type 0 where

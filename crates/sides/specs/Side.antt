@@ -1,4 +1,5 @@
 -- Two rooms side by side: the states of a, and after them those of b.
+--   bothLimit: the most states that two rooms have
 --   both a b: the two machines together
 --   cellIn a b q c d: the cell of the state q, for the class c if q is one of a, for the class d if it is one of b
 --   markIn a b q: the mark of the state q
@@ -8,9 +9,13 @@ use Prim.Native.Nat.{ℕ, _+_, _-_, _≤_}
 use mathlib.Core.Bool.{cond}
 use mathlib.Core.List.{List}
 use lib.Dec.{ltb}
+use Rattle.scope.specs.Limits.{stateLimit}
 use Rattle.scope.specs.Machine.{Machine, Closed}
 use Rattle.scope.specs.Room.{statesOf, cellOf, markOf, machine, Sound}
 use Rattle.scope.specs.Rounds.{aside}
+
+abbrev pub bothLimit : ℕ
+bothLimit = stateLimit + stateLimit
 
 abbrev pub both : List ℕ → List ℕ → Machine
 both a b = aside (machine a) (machine b)

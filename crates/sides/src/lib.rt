@@ -4,12 +4,16 @@
 use scope::Machine;
 ghost use mathlib.Core.Path.{_≡_};
 ghost use Prim.Native.Nat.{_+_, _≤_, _<_};
-ghost use lib.ListN.{getD};
+ghost use lib.ListN.{getD, replicate};
 ghost use Rattle.scope.specs.Limits.{byteValues};
 ghost use Rattle.scope.specs.Room.{statesOf, Below, Sound};
 ghost use Rattle.slices.specs.Parts.{Decides};
+ghost use Rattle.slices.specs.Numbered.{Found};
 ghost use Rattle.sides.specs.Side.{both, cellIn, markIn};
-ghost use Rattle.sides.specs.Kinds.{pairOf, stretch, Level, KindAt, Kinds, Most, Column, Used};
+ghost use Rattle.sides.specs.Kinds.{pairOf, stretch, Level, Kinds, Most, Column, Used};
+
+// The most states that two rooms have.
+pub const STATES: usize = Machine::STATES + Machine::STATES;
 
 // The state after q on the byte x.
 pub fn step(a: &[u8], b: &[u8], q: usize, x: u8) -> usize
@@ -17,7 +21,7 @@ pub fn step(a: &[u8], b: &[u8], q: usize, x: u8) -> usize
     requires { ⌜ q < statesOf (now a) + statesOf (now b) ⌝ }
     ensures { λ r. ⌜ (r ≡ (both (now (a .entry)) (now (b .entry))) .next q x) × (r < statesOf (now (a .entry)) + statesOf (now (b .entry))) ⌝ }
 {
-    let s = a[0] as usize;
+    let s = room::head(a).states;
     if q < s {
         room::step(a, q, x)
     } else {
@@ -31,7 +35,7 @@ pub fn mark(a: &[u8], b: &[u8], q: usize) -> u8
     requires { ⌜ q < statesOf (now a) + statesOf (now b) ⌝ }
     ensures { λ r. ⌜ r ≡ markIn (now (a .entry)) (now (b .entry)) q ⌝ }
 {
-    let s = a[0] as usize;
+    let s = room::head(a).states;
     if q < s {
         a[Machine::MARKS_AT + q]
     } else {
@@ -52,11 +56,11 @@ pub fn cell(
     requires { ⌜ (q < statesOf (now a) + statesOf (now b)) × (i < byteValues) × Used (now a) (now b) (now left) (now right) i ⌝ }
     ensures { λ r. ⌜ (r ≡ cellIn (now (a .entry)) (now (b .entry)) q (getD (now (left .entry)) i 0) (getD (now (right .entry)) i 0)) × (r < statesOf (now (a .entry)) + statesOf (now (b .entry))) ⌝ }
 {
-    let s = a[0] as usize;
+    let s = room::head(a).states;
     if q < s {
-        a[Machine::CELLS_AT + (q * a[1] as usize + left[i] as usize)] as usize
+        room::cell(a, q, left[i])
     } else {
-        s + b[Machine::CELLS_AT + ((q - s) * b[1] as usize + right[i] as usize)] as usize
+        s + room::cell(b, q - s, right[i])
     }
 }
 
@@ -79,7 +83,7 @@ fn pair(a: &[u8], b: &[u8], x: usize) -> usize
 fn find(a: &[u8], b: &[u8], least: &[u8; Machine::BYTES], count: usize, p: usize) -> usize
     requires { ⌜ Sound (now a) × Sound (now b) ⌝ }
     requires { ⌜ (count ≤ byteValues) × Below (now least) 0 count byteValues ⌝ }
-    ensures { λ r. ⌜ KindAt (now (a .entry)) (now (b .entry)) (now (least .entry)) count p r ⌝ }
+    ensures { λ r. ⌜ Found (λ i. pairOf (now (a .entry)) (now (b .entry)) (getD (now (least .entry)) i 0) ≡ p) count r ⌝ }
 {
     let mut i: usize = 0;
     while i < count {
@@ -141,17 +145,21 @@ pub fn kinds(a: &[u8], b: &[u8], most: usize) -> ByteKinds
     }
 }
 
-// The column of each kind: the class of its least byte.
-pub fn columns(room: &[u8], least: &[u8; Machine::BYTES], count: usize) -> [u8; Machine::BYTES]
+// Writes the column of each kind, where all are 0: the class of its least byte.
+pub fn columns(
+    room: &[u8],
+    least: &[u8; Machine::BYTES],
+    count: usize,
+    column: &mut [u8; Machine::BYTES],
+)
     requires { ⌜ Sound (now room) ⌝ }
     requires { ⌜ (count ≤ byteValues) × Below (now least) 0 count byteValues ⌝ }
-    ensures { λ r. ⌜ Column (now (room .entry)) (now (least .entry)) r count ⌝ }
+    requires { ⌜ now column ≡ replicate byteValues 0 ⌝ }
+    ensures { λ _. ⌜ Column (now (room .entry)) (now (least .entry)) (now (column .exit)) count ⌝ }
 {
-    let mut column = [0u8; Machine::BYTES];
     let mut j: usize = 0;
     while j < count {
         column[j] = room[Machine::CLASSES_AT + least[j] as usize];
         j += 1;
     }
-    column
 }

@@ -6,11 +6,9 @@ use mathlib.Core.List.{List}
 use native.Mathlib.Omega.{arith}
 use lib.ListN.{getD}
 use Rattle.scope.specs.Limits.{classesAt}
-use Rattle.scope.specs.Room.{statesOf, Sound}
+use Rattle.scope.specs.Room.{machine, Sound}
 use Rattle.sides.specs.Kinds.{KindsOf, Column}
-use Rattle.sides.specs.Side.{side}
-use Rattle.parts.specs.Refined.{Refined}
-use Rattle.parts.proofs.Refined.{left-parts}
+use Rattle.parts.specs.Refined.{PartsOf}
 use Rattle.plan.specs.Smallest.{Rows}
 use Rattle.plan.specs.Planned.{Planned}
 use Rattle.arrivals.specs.Swept.{Ready, Arrived}
@@ -20,13 +18,12 @@ use Rattle.merging.specs.Merged.{Merged, Mapped}
 use Rattle.merging.proofs.Merged.{classed}
 use Rattle.smallest.proofs.ByKind.{kinded}
 
-module _ {a kind least column part parent born : List ℕ} {kinds rounds : ℕ} (s : Sound a) (k : KindsOf a a kind least kinds) (c : Column a least column kinds)
-    (r : Refined (side a a (statesOf a)) part parent born rounds) where
+module _ {a kind least column part : List ℕ} {kinds : ℕ} (s : Sound a) (k : KindsOf a a kind least kinds) (c : Column a least column kinds) (p : PartsOf (machine a) part) where
   -- the parts and the columns are ready to be numbered
   pub ready : Ready a part column kinds
   ready = record {
     sound = s;
-    parts = left-parts a a part parent born rounds s s r;
+    parts = p;
     few = k .few;
     columns = λ j h g. rw (c .inside j h) (s .classes (classesAt + getD least j 0) (omega (arith, k .byte j h)) (omega arith));
   }

@@ -22,24 +22,9 @@ fn make_plan(from: &[u8]) -> Plan
     requires { ⌜ Sound (now from) ⌝ }
     ensures { λ r. ⌜ Planned (now (from .entry)) r ⌝ }
 {
-    let bytes = sides::kinds(from, from, from[1] as usize);
-    let least = bytes.least;
-    let kinds = bytes.count;
-    let column = sides::columns(from, &least, kinds);
+    let mut column = [0u8; Machine::BYTES];
     let mut part = [0u16; parts::STATES];
-    let mut parent = [0u16; parts::STATES];
-    let mut born = [0u16; parts::STATES];
-    parts::refine(
-        from,
-        from,
-        &column,
-        &column,
-        kinds,
-        from[0] as usize,
-        &mut part,
-        &mut parent,
-        &mut born,
-    );
+    let kinds = parts::refine_alone(from, &mut column, &mut part).kinds;
     let states = arrivals::arrivals(from, &part, &column, kinds);
     let order = states.order;
     let into = states.into;

@@ -17,44 +17,56 @@ rounds-alone-requires c κs = c .before .before .before .before .before .pre .0 
 returns : tie.Need-returns
 returns c = let s = c .before .before .before .before .before .before .pre .0 in answer-twins (s .0) (s .1) (c .before .before .are-twins .ensures .yes (c .before .if1 .taken)) (c .rounds-alone .ensures)
 
+add-n : tie.Need-add-n
+add-n c = let s = c .before .before .before .before .before .before .before .before .pre .0 in omega (arith, c .before .before .head .ensures .0, c .before .head2 .ensures .0, s .0 .few-states, s .1 .few-states)
+
 kinds-requires : tie.Need-kinds-requires
-kinds-requires c κs = (c .before .before .before .before .before .before .pre .0, most-bytes _ _)
+kinds-requires c κs = (c .before .before .before .before .before .before .before .before .pre .0, most-bytes _ _)
 
 columns-requires : tie.Need-columns-requires
-columns-requires c κs = (c .before .before .before .before .before .before .before .before .before .pre .0 .0, least-bytes (c .before .before .kinds .ensures))
+columns-requires c κs = (c .before .before .before .before .before .before .before .before .before .before .before .before .pre .0 .0, (least-bytes (c .before .before .before .kinds .ensures), refl))
 
 columns-requires-2 : tie.Need-columns-requires-2
-columns-requires-2 c κs = (c .before .before .before .before .before .before .before .before .before .before .before .pre .0 .1, least-bytes (c .before .before .before .before .kinds .ensures))
+columns-requires-2 c κs = (c .before .before .before .before .before .before .before .before .before .before .before .before .before .before .before .pre .0 .1, (least-bytes (c .before .before .before .before .before .before .kinds .ensures), refl))
 
 refine-requires : tie.Need-refine-requires
 refine-requires c κs =
-    let s = c .before .before .before .before .before .before .before .before .before .before .before .before .before .before .before .before .before .before .pre .0 in
-    (side-both _ _ (s .0) (s .1), (columns-of (c .before .before .before .before .before .before .before .before .before .before .before .kinds .ensures) (c .before .before .before .before .before .before .before .before .columns .ensures) (c .before .before .before .before .before .before .columns2 .ensures), (refl, refl, refl)))
+    let s = c .before .before .before .before .before .before .before .before .before .before .before .before .before .before .before .before .before .before .before .before .before .pre .0 in
+    (rw (c .before .before .before .before .before .before .before .before .before .before .before .before .before .before .before .head .ensures .0, c .before .before .before .before .before .before .before .before .before .before .before .before .before .before .head2 .ensures .0) (side-both _ _ (s .0) (s .1)), (columns-of (c .before .before .before .before .before .before .before .before .before .before .before .before .kinds .ensures) (c .before .before .before .before .before .before .before .before .columns .ensures) (c .before .before .before .before .before .columns2 .ensures), (refl, refl, refl)))
 
 mul-if2 : tie.Need-mul-if2
-mul-if2 c = omega (arith, c .before .before .before .before .before .before .before .before .before .before .before .before .before .before .before .before .before .before .before .pre .0 .0 .few-states)
+mul-if2 c = omega (arith, c .before .before .before .before .before .before .before .before .before .before .before .before .before .before .before .before .before .before .before .before .before .before .pre .0 .0 .few-states, c .before .before .before .before .before .before .before .before .before .before .before .before .before .before .before .before .head .ensures .0)
 
 array-read-if2-2 : tie.Need-array-read-if2-2
-array-read-if2-2 c = omega (arith, c .before .before .before .before .before .before .before .before .before .before .before .before .before .before .before .before .before .before .before .pre .0 .0 .few-states)
+array-read-if2-2 c = omega (arith, c .before .before .before .before .before .before .before .before .before .before .before .before .before .before .before .before .before .before .before .before .before .before .pre .0 .0 .few-states, c .before .before .before .before .before .before .before .before .before .before .before .before .before .before .before .before .head .ensures .0)
 
 returns-2 : tie.Need-returns-2
-returns-2 c = let s = c .before .before .before .before .before .before .before .before .before .before .before .before .before .before .before .before .before .before .before .before .pre .0 in answer-same (s .0) (s .1) (c .before .refine .ensures .0) (c .if2 .taken)
+returns-2 c =
+    let s = c .before .before .before .before .before .before .before .before .before .before .before .before .before .before .before .before .before .before .before .before .before .before .before .pre .0 in
+    let e = c .before .before .before .before .before .before .before .before .before .before .before .before .before .before .before .before .before .head .ensures .0 in
+    answer-same (s .0) (s .1) (rw (e, c .before .before .before .before .before .before .before .before .before .before .before .before .before .before .before .before .head2 .ensures .0) at (c .before .refine .ensures .0)) (rw e at (c .if2 .taken))
 
 distance-requires : tie.Need-distance-requires
-distance-requires c κs = let s = c .before .before .before .before .before .before .before .before .before .before .before .before .before .before .before .before .before .before .before .before .before .before .before .pre .0 in answer-apart (s .0) (s .1) (c .before .before .before .before .refine .ensures .0) (c .before .before .before .if2 .left)
+distance-requires c κs =
+    let s = c .before .before .before .before .before .before .before .before .before .before .before .before .before .before .before .before .before .before .before .before .before .before .before .before .before .before .pre .0 in
+    let e = c .before .before .before .before .before .before .before .before .before .before .before .before .before .before .before .before .before .before .before .before .head .ensures .0 in
+    rw e (answer-apart (s .0) (s .1) (rw (e, c .before .before .before .before .before .before .before .before .before .before .before .before .before .before .before .before .before .before .before .head2 .ensures .0) at (c .before .before .before .before .refine .ensures .0)) (rw e at (c .before .before .before .if2 .left)))
 
 spell-requires : tie.Need-spell-requires
 spell-requires c κs =
-    let s = c .before .before .before .before .before .before .before .before .before .before .before .before .before .before .before .before .before .before .before .before .before .before .before .before .before .before .before .before .before .pre in
-    let r = c .before .before .before .before .before .before .before .before .before .before .refine .ensures .0 in
-    let e = c .before .before .before .before .before .distance .ensures in
-    (answer-spells (s .0 .0) (s .0 .1) r e, ((_, c .before .before .before .before .before .before .before .before .before .before .before .before .before .before .before .before .before .before .before .before .before .before .kinds .ensures), omega (arith, answer-fits (s .0 .0) (s .0 .1) r e, s .1)))
+    let s = c .before .before .before .before .before .before .before .before .before .before .before .before .before .before .before .before .before .before .before .before .before .before .before .before .before .before .before .before .before .before .before .before .pre in
+    let h = c .before .before .before .before .before .before .before .before .before .before .before .before .before .before .before .before .before .before .before .before .before .before .before .before .before .before .head .ensures .0 in
+    let r = rw (h, c .before .before .before .before .before .before .before .before .before .before .before .before .before .before .before .before .before .before .before .before .before .before .before .before .before .head2 .ensures .0) at (c .before .before .before .before .before .before .before .before .before .before .refine .ensures .0) in
+    let e = rw h at (c .before .before .before .before .before .distance .ensures) in
+    (answer-spells (s .0 .0) (s .0 .1) r e, ((_, c .before .before .before .before .before .before .before .before .before .before .before .before .before .before .before .before .before .before .before .before .before .before .before .kinds .ensures), omega (arith, answer-fits (s .0 .0) (s .0 .1) r e, s .1)))
 
 same-length : tie.Need-same-length
 same-length c = c .before .before .spell .ensures .written .size
 
 returns-3 : tie.Need-returns-3
-returns-3 c = let s = c .before .before .before .before .before .before .before .before .before .before .before .before .before .before .before .before .before .before .before .before .before .before .before .before .before .before .before .before .before .before .before .before .pre .0 in answer-separated (s .0) (s .1) (c .before .before .before .before .before .before .before .before .before .before .before .before .before .refine .ensures .0) (c .before .before .spell .ensures)
+returns-3 c =
+    let s = c .before .before .before .before .before .before .before .before .before .before .before .before .before .before .before .before .before .before .before .before .before .before .before .before .before .before .before .before .before .before .before .before .before .before .before .pre .0 in
+    answer-separated (s .0) (s .1) (rw (c .before .before .before .before .before .before .before .before .before .before .before .before .before .before .before .before .before .before .before .before .before .before .before .before .before .before .before .before .before .head .ensures .0, c .before .before .before .before .before .before .before .before .before .before .before .before .before .before .before .before .before .before .before .before .before .before .before .before .before .before .before .before .head2 .ensures .0) at (c .before .before .before .before .before .before .before .before .before .before .before .before .before .refine .ensures .0)) (c .before .before .spell .ensures)
 
 pub answer-spec : {M : Type 1} → statement M
 answer-spec =
@@ -63,14 +75,12 @@ answer-spec =
     are-twins-requires
     rounds-alone-requires
     returns
-    (λ c. search needs)
-    (λ c. search needs)
+    (λ c κs. search needs)
+    (λ c κs. search needs)
+    add-n
     kinds-requires
     columns-requires
     columns-requires-2
-    (λ c. search needs)
-    (λ c. search needs)
-    (λ c. search needs)
     refine-requires
     (λ c. search needs)
     mul-if2

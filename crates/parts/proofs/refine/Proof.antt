@@ -10,17 +10,17 @@ use lib.ListN.{length, getD}
 use Rattle.scope.specs.Buffers.{Written}
 use Rattle.scope.proofs.Tests.{split}
 use Rattle.scope.proofs.Lists.{zeros}
-use Rattle.sides.specs.Side.{both, side}
-use Rattle.parts.specs.Signs.{Steady}
-use Rattle.parts.proofs.Signs.{steady-next}
+use Rattle.sides.specs.Side.{bothLimit, both, side}
+use Rattle.signs.specs.Signs.{Steady}
+use Rattle.signs.proofs.Signs.{steady-next}
 use Rattle.parts.proofs.Turns.{After, after-none, after-copied, after-more, after-few, after-own, after-done}
 use Rattle.parts.proofs.refine.Statement.{statement}
 use Rattle.parts.proofs.refine.Tie as tie
 
 abbrev Inv-loop : tie.InvT-loop
 Inv-loop a b left right count n part₀ parent₀ born₀ few rows from touched₀ link₀ next₀ r₀ part parent born touched link next r =
-    (length part ≡ 256) × (length next ≡ 256) × (length parent ≡ 256) × (length born ≡ 256) × After (side a b n) part parent born r × Steady ((both a b) .next) part n touched
-    × ((q : ℕ) → q < n → getD next q 0 ≡ getD part q 0) × (length link ≡ 256) × ((x : ℕ) → getD link x 0 ≡ 0)
+    (length part ≡ bothLimit) × (length next ≡ bothLimit) × (length parent ≡ bothLimit) × (length born ≡ bothLimit) × After (side a b n) part parent born r × Steady ((both a b) .next) part n touched
+    × ((q : ℕ) → q < n → getD next q 0 ≡ getD part q 0) × (length link ≡ bothLimit) × ((x : ℕ) → getD link x 0 ≡ 0)
 
 abbrev μ-loop : tie.MeasureT-loop
 μ-loop a b left right count n part₀ parent₀ born₀ few rows from touched₀ link₀ next₀ r₀ part parent born touched link next r = n - r
@@ -29,8 +29,8 @@ abbrev μ-loop : tie.MeasureT-loop
 few : (c : tie.At-loop Inv-loop μ-loop) → c .loop .r ≤ c .before .before .before .before .before .before .before .before .before .before .before .before .before .args .n - 2
 few c = after-few _ (c .before .before .before .before .before .before .before .before .before .before .before .before .before .pre .0 .closed) _ _ _ _ (c .loop .inv .4)
 
--- and at most 256 states
-states : (c : tie.After-shared-slice-known2 Inv-loop μ-loop) → c .before .before .args .n ≤ 256
+-- and not more states than two rooms have
+states : (c : tie.After-shared-slice-known2 Inv-loop μ-loop) → c .before .before .args .n ≤ bothLimit
 states c = let d = c .before .before .pre .0 in omega (arith, d .few, d .left .few-states, d .right .few-states)
 
 -- links that are 0 from n on are 0 when the others are made so
@@ -54,7 +54,7 @@ loop-holds c =
     let z = c .before .before .before .before .before .before .before .before .before .before .before .before .pre .1 .1 in
     let b = c .before .before .before .before .begin .ensures in
     let w = c .adopt .ensures in
-    (b .0 .0, w .0 .size, rw (z .1) refl, rw (z .2) refl, rw (z .1, z .2) (after-none _ _ (b .0 .1)), b .1, w .0 .inside, w .1 .size, cleared (w .1) (λ x h. zeros 256 x))
+    (b .0 .0, w .0 .size, rw (z .1) refl, rw (z .2) refl, rw (z .1, z .2) (after-none _ _ (b .0 .1)), b .1, w .0 .inside, w .1 .size, cleared (w .1) (λ x h. zeros bothLimit x))
 
 add-round : tie.Need-add-round Inv-loop μ-loop
 add-round c = omega (arith, few (c .before .before .before .before .before .before .before .before), c .before .before .before .before .before .before .before .before .before .before .before .before .before .before .before .before .before .before .before .before .before .fits .n)

@@ -5,6 +5,7 @@ use native.Mathlib.Omega.{arith}
 use borrow.Author.Needs.{needs}
 use borrow.Author.Count.{below-more}
 use lib.ListN.{getD}
+use Rattle.slices.proofs.Numbered.{found-here, found-none}
 use Rattle.sides.specs.Kinds.{pairOf}
 use Rattle.sides.proofs.find.Statement.{statement}
 use Rattle.sides.proofs.find.Tie as tie
@@ -28,13 +29,13 @@ pair-requires : tie.Need-pair-requires Inv-loop μ-loop
 pair-requires c κs = (c .before .before .before .before .before .pre .0, c .before .before .before .before .before .pre .1 .1 (c .before .before .loop .i) (c .before .loop-test .taken) (omega arith))
 
 returns : tie.Need-returns Inv-loop μ-loop
-returns c = record { few = search needs; here = λ h. sym (c .before .pair .ensures) ∙ c .if1 .taken; none = λ e. absurd (omega (arith, c .before .before .before .loop-test .taken)) }
+returns c = found-here (c .before .before .before .loop-test .taken) (sym (c .before .pair .ensures) ∙ c .if1 .taken) (c .before .before .before .before .loop .inv .1)
 
 loop-again : tie.Need-loop-again Inv-loop μ-loop
 loop-again c = (search needs, below-more _ _ (c .before .before .before .before .loop .inv .1) (λ e. c .if1 .left (c .before .pair .ensures ∙ e)))
 
 returns-2 : tie.Need-returns-2 Inv-loop μ-loop
-returns-2 c = record { few = search needs; here = λ h. absurd (omega arith); none = λ e j h. c .before .loop .inv .1 j (omega arith) }
+returns-2 c = found-none (λ j h. c .before .loop .inv .1 j (omega arith))
 
 pub find-spec : {M : Type 1} → statement M
 find-spec =

@@ -4,15 +4,17 @@ use Prim.Native.Nat.{_+_, _≤_, _<_, _-_}
 use native.Mathlib.Omega.{arith}
 use borrow.Author.Needs.{needs}
 use borrow.Author.Tests.{ltb-false}
-use Rattle.sides.proofs.ByKind.{Passed, passed-first, passed-same, passed-level, passed-old, passed-new, passed-full, passed-all}
+use Rattle.scope.specs.Limits.{byteValues}
+use Rattle.sides.specs.Kinds.{stretch}
+use Rattle.sides.proofs.ByKind.{Passed, passed-first, passed-same, passed-level, passed-old, passed-new, passed-full, passed-all, passed-byte, passed-few}
 use Rattle.sides.proofs.kinds.Statement.{statement}
 use Rattle.sides.proofs.kinds.Tie as tie
 
 abbrev Inv-loop : tie.InvT-loop
-Inv-loop a b most least₀ count₀ last₀ x₀ least count last x = (0 < x) × (x ≤ 256) × Passed a b least count last x
+Inv-loop a b most least₀ count₀ last₀ x₀ least count last x = (0 < x) × (x ≤ byteValues) × Passed a b least count last x
 
 abbrev μ-loop : tie.MeasureT-loop
-μ-loop a b most least₀ count₀ last₀ x₀ least count last x = 256 - x
+μ-loop a b most least₀ count₀ last₀ x₀ least count last x = byteValues - x
 
 loop-holds : tie.Need-loop-holds Inv-loop μ-loop
 loop-holds c = (search needs, search needs, passed-first _ _ _ (c .pair .ensures))
@@ -28,42 +30,41 @@ loop-less c = omega (arith, c .before .before .before .before .before .before .l
 
 loop-again : tie.Need-loop-again Inv-loop μ-loop
 loop-again c =
-    let h : c .before .before .before .before .before .before .before .loop .x + 16 ≤ 256 = omega (arith, c .before .before .before .before .if2 .taken, c .before .before .before .before .before .before .loop-test .taken) in
-    (search needs, h, passed-level _ _ _ _ (c .before .before .before .before .before .before .before .before .before .before .before .pre .0 .1) h (c .before .before .before .before .before .before .before .loop .inv .2) (c .before .before .before .is-level .ensures .yes (c .before .before .if3 .taken)) (c .before .is-level2 .ensures .yes (c .if4 .taken)))
+    let h : c .before .before .before .before .before .before .before .loop .x + stretch ≤ byteValues = omega (arith, c .before .before .before .before .if2 .taken, c .before .before .before .before .before .before .loop-test .taken) in
+    (search needs, h, passed-level _ _ _ _ h (c .before .before .before .before .before .before .before .loop .inv .2) (c .before .before .before .is-level .ensures .yes (c .before .before .if3 .taken)) (c .before .is-level2 .ensures .yes (c .if4 .taken)))
 
 find-requires : tie.Need-find-requires Inv-loop μ-loop
 find-requires c κs =
-    let k = c .before .before .before .before .before .before .loop .inv .2 .kinds in
+    let g = c .before .before .before .before .before .before .loop .inv .2 in
     let l = c .before .before .before .before .before .loop-test .taken in
-    (c .before .before .before .before .before .before .before .before .before .before .pre .0, (omega (arith, k .few, l), λ i h z. omega (arith, k .byte i h, l)))
+    (c .before .before .before .before .before .before .before .before .before .before .pre .0, (omega (arith, passed-few g, l), λ i h z. omega (arith, passed-byte g i h, l)))
 
 array-write-least : tie.Need-array-write-least Inv-loop μ-loop
-array-write-least c = let k = c .before .before .before .before .before .before .before .before .loop .inv .2 .kinds in omega (arith, k .few, k .least-long, c .before .before .before .before .before .before .before .loop-test .taken)
+array-write-least c = let g = c .before .before .before .before .before .before .before .before .loop .inv .2 in omega (arith, passed-few g, g .least-long, c .before .before .before .before .before .before .before .loop-test .taken)
 
 add-count : tie.Need-add-count Inv-loop μ-loop
-add-count c = omega (arith, c .before .before .before .before .before .before .before .before .loop .inv .2 .kinds .few)
+add-count c = omega (arith, passed-few (c .before .before .before .before .before .before .before .before .loop .inv .2))
 
 loop-again-2 : tie.Need-loop-again-2 Inv-loop μ-loop
 loop-again-2 c =
-    let t = c .before .before .before .before .before .before .before .before .before .pre .0 .1 in
     let l = c .before .before .before .before .loop-test .taken in
     let g = c .before .before .before .before .before .loop .inv .2 in
     let e = c .before .pair2 .ensures in (
       search needs,
       search needs,
       ⊎-elim
-          (λ w. rw (w .4, w .5, w .6) (passed-new _ _ _ _ _ _ _ t l g e (rw (w .3 .taken) at (w .2 .ensures))))
+          (λ w. rw (w .4, w .5, w .6) (passed-new _ _ _ _ _ _ _ l g e (rw (w .3 .taken) at (w .2 .ensures))))
           (⊎-elim
-          (λ w. rw (w .4, w .5, w .6) (passed-old _ _ _ _ _ _ _ t l g e (w .2 .result) (w .2 .ensures) (w .3 .left)))
-          (λ w. rw (w .1, w .2, w .3) (passed-same _ _ _ _ _ _ _ t l g e (w .0 .left))))
+          (λ w. rw (w .4, w .5, w .6) (passed-old _ _ _ _ _ _ _ l g e (w .2 .result) (w .2 .ensures) (w .3 .left)))
+          (λ w. rw (w .1, w .2, w .3) (passed-same _ _ _ _ _ _ _ l g e (w .0 .left))))
           (c .if5 .came),
     )
 
 returns : tie.Need-returns Inv-loop μ-loop
-returns c = passed-full _ _ _ (c .before .before .before .before .before .before .pre .0 .1) (c .before .before .before .before .before .before .pre .1) (c .before .before .loop .inv .1) (c .before .before .loop .inv .2) (ltb-false _ _ (c .if1 .left))
+returns c = passed-full _ _ _ (c .before .before .before .before .before .before .pre .0 .1) (c .before .before .before .before .before .before .pre .1) _ _ (ltb-false _ _ (c .if1 .left)) (c .before .before .loop .inv .1) (c .before .before .loop .inv .2)
 
 returns-2 : tie.Need-returns-2 Inv-loop μ-loop
-returns-2 c = passed-all (omega arith) (c .before .loop .inv .2)
+returns-2 c = passed-all (c .before .loop .inv .2) (c .before .before .before .before .before .pre .0 .1) (omega arith)
 
 pub kinds-spec : {M : Type 1} → statement M
 kinds-spec =

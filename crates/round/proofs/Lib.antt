@@ -1,0 +1,3 @@
+-- The laws behind a round, each file after what it needs.
+pub mod Passes
+pub mod Gaps

@@ -1,0 +1,2 @@
+-- What the contract of a round cites.
+pub mod Round

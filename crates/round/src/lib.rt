@@ -1,0 +1,104 @@
+// One round of the refinement: each part is split into those that agree.
+//
+// A part is named by its least state: so a state that begins a part begins one in every later round, and a part that is opened has one parent, the part that its
+// least state lay in before. A state is looked at only where something has moved that it or the beginning of its part leads to, and compared only with the states
+// that begin new parts within its old one.
+use scope::Machine;
+ghost use mathlib.Core.Path.{_≡_};
+ghost use mathlib.Core.Bool.{true, false};
+ghost use Prim.Native.Nat.{ℕ, _≤_, _<_};
+ghost use lib.ListN.{length, getD, set};
+ghost use Rattle.slices.specs.Parts.{Decides};
+ghost use Rattle.sides.specs.Side.{bothLimit, both, Side};
+ghost use Rattle.sides.specs.Kinds.{ColumnsOf};
+ghost use Rattle.agree.specs.Parts.{Named, Renamed, Alike, Agree};
+ghost use Rattle.agree.specs.Rows.{Rows};
+ghost use Rattle.signs.specs.Signs.{Steady, Stayed};
+ghost use Rattle.round.specs.Round.{Opening, Joining, Opened, Births};
+
+// Gives the state q, whose part h begins, to the new part that p begins within it; whether that is q itself, born in round r. Then q is the last of the chain of h.
+fn shift(
+    q: usize,
+    h: usize,
+    p: usize,
+    r: u16,
+    link: &mut [u16; sides::STATES],
+    next: &mut [u16; sides::STATES],
+    parent: &mut [u16; sides::STATES],
+    born: &mut [u16; sides::STATES],
+) -> bool
+    requires { ⌜ (q < bothLimit) × (h < bothLimit) × (p < bothLimit) ⌝ }
+    ensures { λ z. ⌜ now (next .exit) ≡ set (now (next .entry)) q p ⌝ }
+    ensures { λ z. ⌜ (z ≡ true → Opening q h p r (now (link .entry)) (now (link .exit)) (now (parent .entry)) (now (parent .exit)) (now (born .entry)) (now (born .exit))) ⌝ }
+    ensures { λ z. ⌜ (z ≡ false → Joining q p (now (link .entry)) (now (link .exit)) (now (parent .entry)) (now (parent .exit)) (now (born .entry)) (now (born .exit))) ⌝ }
+{
+    next[q] = p as u16;
+    if p != q {
+        return false;
+    }
+    link[q] = link[h];
+    link[h] = q as u16;
+    parent[q] = h as u16;
+    born[q] = r;
+    true
+}
+
+// One round, from part to next, which is the same before, with the births of round r; whether it opened a part. `touched` has the signs of the states that a byte leads
+// to one that moved in the last round, and then in this one. A state agrees still with the one that begins its part where neither is touched; so where one that begins
+// a part is, all that come after it are looked at. `link` is 0 before.
+pub fn round(
+    a: &[u8],
+    b: &[u8],
+    left: &[u8; Machine::BYTES],
+    right: &[u8; Machine::BYTES],
+    count: usize,
+    few: bool,
+    rows: &[u16; agree::ROWS],
+    from: &[u64; sides::STATES],
+    part: &[u16; sides::STATES],
+    touched: &mut u64,
+    link: &mut [u16; sides::STATES],
+    next: &mut [u16; sides::STATES],
+    parent: &mut [u16; sides::STATES],
+    born: &mut [u16; sides::STATES],
+    n: usize,
+    r: u16,
+) -> bool
+    requires { ⌜ Side (now a) (now b) n ⌝ }
+    requires { ⌜ ColumnsOf (now a) (now b) (now left) (now right) count ⌝ }
+    requires { ⌜ (few ≡ true → Rows (now a) (now b) (now left) (now right) count (now rows) n) ⌝ }
+    requires { ⌜ Named (Alike (now part)) (now part) n ⌝ }
+    requires { ⌜ (length (now next) ≡ bothLimit) × (length (now parent) ≡ bothLimit) × (length (now born) ≡ bothLimit) ⌝ }
+    requires { ⌜ Steady ((both (now a) (now b)) .next) (now part) n (now touched) ⌝ }
+    requires { ⌜ ((q : ℕ) → q < n → getD (now next) q 0 ≡ getD (now part) q 0) ⌝ }
+    requires { ⌜ (length (now link) ≡ bothLimit) × ((x : ℕ) → getD (now link) x 0 ≡ 0) ⌝ }
+    ensures { λ z. ⌜ Renamed (Agree ((both (now (a .entry)) (now (b .entry))) .next) (now (part .entry))) (now (next .entry)) (now (next .exit)) n ⌝ }
+    ensures { λ z. ⌜ Births (now (part .entry)) (now (next .exit)) (now (parent .entry)) (now (parent .exit)) (now (born .entry)) (now (born .exit)) r n ⌝ }
+    ensures { λ z. ⌜ Stayed (now (part .entry)) (now (next .exit)) (now (from .entry)) n (now (touched .exit)) ⌝ }
+    ensures { λ z. ⌜ Decides z (Opened (now (part .entry)) (now (next .exit)) n) ⌝ }
+    ensures { λ z. ⌜ (length (now (link .exit)) ≡ bothLimit) × ((x : ℕ) → n ≤ x → getD (now (link .exit)) x 0 ≡ 0) ⌝ }
+{
+    let mut opened = false;
+    let mut stirred: u64 = 0;
+    let mut seen = *touched;
+    let mut q = signs::seek(seen, 0, n);
+    while q < n {
+        let h = part[q] as usize;
+        if h < q {
+            if (signs::sign(q) | signs::sign(h)) & *touched != 0 {
+                let p = agree::walk(a, b, left, right, count, few, rows, part, link, q);
+                if p != h {
+                    stirred = stirred | from[q];
+                    if shift(q, h, p, r, link, next, parent, born) {
+                        opened = true;
+                    }
+                }
+            }
+        } else {
+            seen = u64::MAX;
+        }
+        q = signs::seek(seen, q + 1, n);
+    }
+    *touched = stirred;
+    opened
+}

@@ -1,0 +1,2 @@
+-- What the contracts of signs cite.
+pub mod Signs

@@ -1,0 +1,143 @@
+// Signs of states: a word of 64 signs tells of many states at once which are to be looked at, and never of too few.
+//
+// With each state the signs of those are noted that a byte leads to it, and their cells in rows beside. Round 0 parts the states by their mark, and has then the
+// signs of the states that lead to one that is not of the first part.
+use scope::Machine;
+ghost use mathlib.Core.Path.{_≡_};
+ghost use mathlib.Core.Bool.{true};
+ghost use Prim.Native.Nat.{_+_, _*_, _%_, _^_, _≤_, _<_};
+ghost use lib.ListN.{length, replicate};
+ghost use Rattle.scope.specs.Room.{statesOf, Sound};
+ghost use Rattle.scope.specs.Rounds.{Together};
+ghost use Rattle.sides.specs.Side.{bothLimit, both, side, Side};
+ghost use Rattle.sides.specs.Kinds.{ColumnsOf};
+ghost use Rattle.agree.specs.Parts.{Named};
+ghost use Rattle.agree.specs.Rows.{rowCells, Rows};
+ghost use Rattle.signs.specs.Signs.{signs, Gap, Sources, Noted, Steady};
+
+// How many signs there are: a state has the one that its number leaves.
+const SIGNS: usize = 64;
+
+// The sign of the state q.
+pub fn sign(q: usize) -> u64
+    ensures { λ r. ⌜ r ≡ 2 ^ (q % signs) ⌝ }
+{
+    1u64 << (q % SIGNS)
+}
+
+// The next state from q on whose sign is in s, n if none below n has it.
+pub fn seek(s: u64, q: usize, n: usize) -> usize
+    requires { ⌜ (q ≤ n) × (n ≤ bothLimit) ⌝ }
+    ensures { λ r. ⌜ (q ≤ r) × (r ≤ n) × Gap s q r ⌝ }
+{
+    let mut x = q;
+    while x < n {
+        let rest = s >> (x % SIGNS);
+        if rest % 2 == 1 {
+            return x;
+        }
+        if rest != 0 {
+            let y = x + u64::trailing_zeros(rest) as usize;
+            if y < n {
+                return y;
+            }
+            return n;
+        }
+        x += SIGNS - x % SIGNS;
+    }
+    n
+}
+
+// Notes for each kind the cell of the state q, in its row if there are rows, and the sign of q with the state that it leads to. Where the kind before leads there too,
+// the sign is noted already.
+fn note(
+    a: &[u8],
+    b: &[u8],
+    left: &[u8; Machine::BYTES],
+    right: &[u8; Machine::BYTES],
+    count: usize,
+    q: usize,
+    few: bool,
+    rows: &mut [u16; agree::ROWS],
+    from: &mut [u64; sides::STATES],
+)
+    requires { ⌜ Sound (now a) × Sound (now b) ⌝ }
+    requires { ⌜ ColumnsOf (now a) (now b) (now left) (now right) count × (q < statesOf (now a) + statesOf (now b)) ⌝ }
+    requires { ⌜ (length (now rows) ≡ rowCells) × (length (now from) ≡ bothLimit) ⌝ }
+    requires { ⌜ (few ≡ true → ((q + 1) * count ≤ rowCells) × Rows (now a) (now b) (now left) (now right) count (now rows) q) ⌝ }
+    ensures { λ _. ⌜ (few ≡ true → Rows (now (a .entry)) (now (b .entry)) (now (left .entry)) (now (right .entry)) count (now (rows .exit)) (q + 1)) ⌝ }
+    ensures { λ _. ⌜ Noted ((both (now (a .entry)) (now (b .entry))) .next) q (now (from .entry)) (now (from .exit)) ⌝ }
+    ensures { λ _. ⌜ (length (now (rows .exit)) ≡ rowCells) × (length (now (from .exit)) ≡ bothLimit) ⌝ }
+{
+    let s = sign(q);
+    let x = q * count;
+    let mut last = sides::STATES;
+    let mut i: usize = 0;
+    while i < count {
+        let y = sides::cell(a, b, left, right, q, i);
+        if few {
+            rows[x + i] = y as u16;
+        }
+        if y != last {
+            from[y] = from[y] | s;
+            last = y;
+        }
+        i += 1;
+    }
+}
+
+// Notes the first n states.
+pub fn note_all(
+    a: &[u8],
+    b: &[u8],
+    left: &[u8; Machine::BYTES],
+    right: &[u8; Machine::BYTES],
+    count: usize,
+    n: usize,
+    few: bool,
+    rows: &mut [u16; agree::ROWS],
+    from: &mut [u64; sides::STATES],
+)
+    requires { ⌜ Side (now a) (now b) n × ColumnsOf (now a) (now b) (now left) (now right) count ⌝ }
+    requires { ⌜ (length (now rows) ≡ rowCells) × (length (now from) ≡ bothLimit) ⌝ }
+    requires { ⌜ (few ≡ true → n * count ≤ rowCells) ⌝ }
+    ensures { λ _. ⌜ (few ≡ true → Rows (now (a .entry)) (now (b .entry)) (now (left .entry)) (now (right .entry)) count (now (rows .exit)) n) ⌝ }
+    ensures { λ _. ⌜ Sources ((both (now (a .entry)) (now (b .entry))) .next) n (now (from .exit)) ⌝ }
+{
+    let mut q: usize = 0;
+    while q < n {
+        note(a, b, left, right, count, q, few, rows, from);
+        q += 1;
+    }
+}
+
+// Round 0: the parts by mark, where all are 0; the signs of the states that a byte leads to one that is not of the first part.
+pub fn begin(
+    a: &[u8],
+    b: &[u8],
+    from: &[u64; sides::STATES],
+    n: usize,
+    part: &mut [u16; sides::STATES],
+) -> u64
+    requires { ⌜ Side (now a) (now b) n ⌝ }
+    requires { ⌜ Sources ((both (now a) (now b)) .next) n (now from) ⌝ }
+    requires { ⌜ now part ≡ replicate bothLimit 0 ⌝ }
+    ensures { λ _. ⌜ (length (now (part .exit)) ≡ bothLimit) × Named (Together (side (now (a .entry)) (now (b .entry)) n) 0) (now (part .exit)) n ⌝ }
+    ensures { λ r. ⌜ Steady ((both (now (a .entry)) (now (b .entry))) .next) (now (part .exit)) n r ⌝ }
+{
+    let m = sides::mark(a, b, 0);
+    let mut touched: u64 = 0;
+    let mut other: usize = 0;
+    let mut q: usize = 0;
+    while q < n {
+        if sides::mark(a, b, q) != m {
+            if other == 0 {
+                other = q;
+            }
+            part[q] = other as u16;
+            touched = touched | from[q];
+        }
+        q += 1;
+    }
+    touched
+}

@@ -1,0 +1,3 @@
+-- What the contracts of spelling cite.
+pub mod Climb
+pub mod Word
