@@ -73,10 +73,11 @@ module _ {a order into column sort leader : List ℕ} {n k e i : ℕ} (b : getD 
 -- ---- all kinds, and so all bytes
 
 -- where each column has the class of its own number, the bytes keep theirs
-pub mapped-same : {a class : List ℕ} (sort : List ℕ) → Sound a → SameOrder sort (classesOf a) → Written byteValues (classOf a) (replicate byteValues 0) class → Mapped a sort class
-mapped-same {a} sort s o w = record {
+pub mapped-same : {a class : List ℕ} {k : ℕ} (sort : List ℕ) → Sound a → k ≡ classesOf a → SameOrder sort k → Written byteValues (classOf a) (replicate byteValues 0) class
+    → Mapped a sort class
+mapped-same {a} sort s e o w = record {
   size = w .size;
-  inside = λ x h. w .inside x h ∙ sym (o (classOf a x) (s .classes (classesAt + x) (omega arith) (omega arith)));
+  inside = λ x h. w .inside x h ∙ sym (o (classOf a x) (omega (arith, s .classes (classesAt + x) (omega arith) (omega arith))));
   outside = w .outside;
 }
 

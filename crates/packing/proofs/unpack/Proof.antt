@@ -67,7 +67,7 @@ returns-3 c = no-form (c .before .before .before .before .before .before .before
 
 copy-requires : tie.Need-copy-requires
 copy-requires c κs = let l = c .before .before .before .before .before .before .before .before .before .before .before .is-lent .ensures .yes (not-false _ (c .before .before .before .before .before .before .before .before .before .before .if1 .left)) in
-    (omega (arith, l .scratch .bytes-long, c .before .before .before .before .before .before .before .before .unpack-fields .ensures .tail .size), l .room-long)
+    (omega (arith, l .scratch .bytes-long, c .before .before .before .before .before .before .before .before .unpack-fields .ensures .tail .size), omega (arith, l .room-long))
 
 clear-requires-3 : tie.Need-clear-requires-3
 clear-requires-3 c κs = let l = c .before .before .before .before .before .before .before .before .before .before .before .before .before .before .before .before .is-lent .ensures .yes (not-false _ (c .before .before .before .before .before .before .before .before .before .before .before .before .before .before .before .if1 .left)) in
