@@ -1,7 +1,7 @@
 -- What unpacking ensures, with what is returned for the answer's number.
 use borrow.Author.Needs.{needs}
-use Rattle.palgondur.proofs.palgondur_unpack.Statement.{statement}
-use Rattle.palgondur.proofs.palgondur_unpack.Tie as tie
+use Rattle.pack_numbers.proofs.unpack.Statement.{statement}
+use Rattle.pack_numbers.proofs.unpack.Tie as tie
 
 unpack-requires : tie.Need-unpack-requires
 unpack-requires c κs = search needs
@@ -21,7 +21,7 @@ same-length-3 c = search needs
 returns : tie.Need-returns
 returns c = rw (c .number .ensures) (c .before .before .before .before .before .before .before .unpack .ensures)
 
-pub palgondur-unpack-spec : {M : Type 1} → statement M
-palgondur-unpack-spec =
+pub unpack-spec : {M : Type 1} → statement M
+unpack-spec =
     tie.close
     (tie.spec unpack-requires number-requires same-length same-length-2 same-length-3 returns)

@@ -1,7 +1,7 @@
 -- What opening ensures, with what is returned for the answer's number.
 use borrow.Author.Needs.{needs}
-use Rattle.palgondur.proofs.palgondur_desk_open.Statement.{statement}
-use Rattle.palgondur.proofs.palgondur_desk_open.Tie as tie
+use Rattle.desk_numbers.proofs.open_form.Statement.{statement}
+use Rattle.desk_numbers.proofs.open_form.Tie as tie
 
 open-form-requires : tie.Need-open-form-requires
 open-form-requires c κs = search needs
@@ -15,5 +15,5 @@ same-length c = search needs
 returns : tie.Need-returns
 returns c = rw (c .number .ensures) (c .before .before .before .open-form .ensures)
 
-pub palgondur-desk-open-spec : {M : Type 1} → statement M
-palgondur-desk-open-spec = tie.close (tie.spec open-form-requires number-requires same-length returns)
+pub open-form-spec : {M : Type 1} → statement M
+open-form-spec = tie.close (tie.spec open-form-requires number-requires same-length returns)

@@ -1,7 +1,7 @@
 -- What minimising ensures, with what is returned for the answer's number.
 use borrow.Author.Needs.{needs}
-use Rattle.palgondur.proofs.palgondur_minimise.Statement.{statement}
-use Rattle.palgondur.proofs.palgondur_minimise.Tie as tie
+use Rattle.minimise_numbers.proofs.minimise.Statement.{statement}
+use Rattle.minimise_numbers.proofs.minimise.Tie as tie
 
 minimise-requires : tie.Need-minimise-requires
 minimise-requires c κs = search needs
@@ -21,7 +21,7 @@ same-length-3 c = search needs
 returns : tie.Need-returns
 returns c = rw (c .number .ensures) (c .before .before .before .before .before .before .before .minimise .ensures)
 
-pub palgondur-minimise-spec : {M : Type 1} → statement M
-palgondur-minimise-spec =
+pub minimise-spec : {M : Type 1} → statement M
+minimise-spec =
     tie.close
     (tie.spec minimise-requires number-requires same-length same-length-2 same-length-3 returns)

@@ -1,7 +1,7 @@
 -- What compiling ensures, with what is returned and written for the answer's number and place.
 use borrow.Author.Needs.{needs}
-use Rattle.palgondur.proofs.palgondur_compile.Statement.{statement}
-use Rattle.palgondur.proofs.palgondur_compile.Tie as tie
+use Rattle.compile_numbers.proofs.compile.Statement.{statement}
+use Rattle.compile_numbers.proofs.compile.Tie as tie
 
 compile-requires : tie.Need-compile-requires
 compile-requires c κs = search needs
@@ -24,8 +24,8 @@ same-length-3 c = search needs
 returns : tie.Need-returns
 returns c = rw (c .number .ensures, c .before .place .ensures) (c .before .before .before .before .before .before .before .before .compile .ensures)
 
-pub palgondur-compile-spec : {M : Type 1} → statement M
-palgondur-compile-spec =
+pub compile-spec : {M : Type 1} → statement M
+compile-spec =
     tie.close
     (tie.spec
     compile-requires

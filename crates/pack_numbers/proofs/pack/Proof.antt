@@ -1,7 +1,7 @@
 -- What packing ensures, with what is returned and written for the answer's number and length.
 use borrow.Author.Needs.{needs}
-use Rattle.palgondur.proofs.palgondur_pack.Statement.{statement}
-use Rattle.palgondur.proofs.palgondur_pack.Tie as tie
+use Rattle.pack_numbers.proofs.pack.Statement.{statement}
+use Rattle.pack_numbers.proofs.pack.Tie as tie
 
 pack-requires : tie.Need-pack-requires
 pack-requires c κs = search needs
@@ -24,8 +24,8 @@ same-length-3 c = search needs
 returns : tie.Need-returns
 returns c = rw (c .number .ensures, c .before .length .ensures) (c .before .before .before .before .before .before .before .before .pack .ensures)
 
-pub palgondur-pack-spec : {M : Type 1} → statement M
-palgondur-pack-spec =
+pub pack-spec : {M : Type 1} → statement M
+pack-spec =
     tie.close
     (tie.spec
     pack-requires

@@ -1,7 +1,7 @@
 -- What comparing ensures, with what is returned and written for the answer's number, length and rounds.
 use borrow.Author.Needs.{needs}
-use Rattle.palgondur.proofs.palgondur_compare.Statement.{statement}
-use Rattle.palgondur.proofs.palgondur_compare.Tie as tie
+use Rattle.compare_numbers.proofs.compare.Statement.{statement}
+use Rattle.compare_numbers.proofs.compare.Tie as tie
 
 compare-requires : tie.Need-compare-requires
 compare-requires c κs = search needs
@@ -27,8 +27,8 @@ same-length-3 c = search needs
 returns : tie.Need-returns
 returns c = rw (c .number .ensures, c .before .before .length .ensures, c .before .rounds .ensures) (c .before .before .before .before .before .before .before .before .before .compare .ensures)
 
-pub palgondur-compare-spec : {M : Type 1} → statement M
-palgondur-compare-spec =
+pub compare-spec : {M : Type 1} → statement M
+compare-spec =
     tie.close
     (tie.spec
     compare-requires
