@@ -1,0 +1,3 @@
+-- What the program's lines are put from.
+pub mod Appended
+pub mod Printing
