@@ -1,48 +1,24 @@
 -- The program's lines are the pieces that the code puts, one behind the other, and there is room for them. Joins are moved by `append-assoc`; the cases are tests on the answers' numbers.
---   appended-hexes, appended-shown: a word that is put up to its byte i: one byte more, and no more bytes
 --   side-line, told-done, told-refused: a side's line, by the answer
 --   outcome-same, outcome-apart: the lines of the comparison, by the answer
 --   printed-left, printed-right, printed-both: what is printed if the left side is refused, if only the right one is, and else
 --   told-short, outcome-short: how many bytes these are at most
-use Prim.Native.Nat.{ℕ, _+_, _*_, _^_, _/_, _%_, _≤_, _<_}
+use Prim.Native.Nat.{ℕ, _+_, _*_, _^_, _≤_, _<_}
 use Prim.Native.String.{String}
 use mathlib.Core.Path.{_≡_, refl, sym, ap, _∙_}
 use mathlib.Core.Bool.{Bool, true, false, cond}
 use mathlib.Core.List.{List, [], _∷_, _++_, append-assoc, append-nil}
 use native.Mathlib.Omega.{arith}
 use native.Mathlib.Decide.{ℕ-discrete}
-use native.Mathlib.Numerals.{add-one}
 use lib.Dec.{eqb}
-use lib.ListN.{length, getD, take, length-append}
-use lib.Seq.{take-all, take-suc}
+use lib.ListN.{length, length-append}
 use borrow.Author.Tests.{eq-eqb, ne-eqb}
 use Rattle.scope.specs.Bytes.{ascii}
 use Rattle.scope.specs.Limits.{wordBytes}
 use Rattle.scope.specs.Answers.{DONE, SAME}
-use Rattle.scope.specs.Lines.{Side, Outcome, decimal, hexDigit, hexes, shown, sideLine, outcomeLines, printed}
-use Rattle.put_lines.specs.Appended.{Appended}
+use Rattle.scope.specs.Lines.{Side, Outcome, decimal, shown, sideLine, outcomeLines, printed}
 use Rattle.put_lines.specs.Printing.{counted, told}
-use Rattle.put_lines.proofs.Numerals.{decimal-short, hexes-join, shown-some, shown-short}
-use Rattle.put_lines.proofs.Appending.{appended-as, appended-join}
-
--- ---- a word
-
-module _ {old new : List ℕ} {at n : ℕ} (word : List ℕ) (i : ℕ) (p : Appended old new at (hexes (take i word)) n) where
-  -- the two digits of the next byte
-  pub appended-hexes : {one two : List ℕ} {d e m r : ℕ} → i < length word → d ≡ hexDigit (getD word i 0 / 16) → e ≡ hexDigit (getD word i 0 % 16)
-      → Appended new one n (d ∷ []) m → Appended one two m (e ∷ []) r → Appended old two at (hexes (take (i + 1) word)) r
-  unfolding hexes
-  appended-hexes {one} {two} {d} {e} {m} {r} h f g q s =
-      let two-more : d ∷ e ∷ [] ≡ hexes (getD word i 0 ∷ []) = rw (f, g) in
-      let one-more : take i word ++ (getD word i 0 ∷ []) ≡ take (i + 1) word = rw (add-one i, take-suc word i 0) in
-      appended-as
-      (append-assoc (hexes (take i word)) (d ∷ []) (e ∷ []) ∙ ap (λ l. hexes (take i word) ++ l) two-more
-      ∙ sym (hexes-join (take i word) (getD word i 0 ∷ []))
-      ∙ ap hexes one-more)
-      (appended-join (appended-join p q) s)
-
-  pub appended-shown : 0 < length word → length word ≤ i → Appended old new at (shown word) n
-  appended-shown some h = appended-as (ap hexes (take-all i word h) ∙ sym (shown-some word some)) p
+use Rattle.pieces.proofs.Numerals.{decimal-short, shown-short}
 
 -- ---- by pieces
 

@@ -1,11 +1,10 @@
 // What the program `alike` prints: the lines of its answers, put one behind the other.
-ghost use mathlib.Core.Path.{_≡_};
-ghost use mathlib.Core.List.{[], _∷_, _++_};
-ghost use Prim.Native.Nat.{_+_, _≤_, _<_};
+ghost use mathlib.Core.List.{_++_};
+ghost use Prim.Native.Nat.{_+_, _≤_};
 ghost use lib.ListN.{length};
 ghost use Rattle.scope.specs.Limits.{wordBytes};
-ghost use Rattle.scope.specs.Lines.{decimal, hexDigit, shown, outcomeLines, printed};
-ghost use Rattle.put_lines.specs.Appended.{Appended};
+ghost use Rattle.scope.specs.Lines.{outcomeLines, printed};
+ghost use Rattle.pieces.specs.Appended.{Appended};
 ghost use Rattle.put_lines.specs.Printing.{sideOf, outcome, counted, told};
 use scope::Machine;
 
@@ -30,63 +29,6 @@ pub struct Side {
     pub classes: usize,
 }
 
-// Puts one byte at `at`; answers the place behind it.
-fn put_byte(out: &mut [u8], at: usize, byte: u8) -> usize
-    requires { ⌜ at < length (now out) ⌝ }
-    ensures { λ r. ⌜ Appended (now (out .entry)) (now (out .exit)) at (byte ∷ []) r ⌝ }
-{
-    out[at] = byte;
-    at + 1
-}
-
-// Puts `text` at `at`; answers the place behind it.
-fn put_text(out: &mut [u8], at: usize, text: &[u8]) -> usize
-    requires { ⌜ at + length (now text) ≤ length (now out) ⌝ }
-    ensures { λ r. ⌜ Appended (now (out .entry)) (now (out .exit)) at (now (text .entry)) r ⌝ }
-{
-    let next = at + text.len();
-    slices::copy(text, &mut out[at..next], text.len());
-    next
-}
-
-// Puts `n` in decimal; it has few digits, so the calls are few.
-fn put_decimal(out: &mut [u8], at: usize, n: usize) -> usize
-    requires { ⌜ at + length (decimal n) ≤ length (now out) ⌝ }
-    ensures { λ r. ⌜ Appended (now (out .entry)) (now (out .exit)) at (decimal n) r ⌝ }
-{
-    if n < 10 {
-        return put_byte(out, at, b'0' + n as u8);
-    }
-    let last = put_decimal(out, at, n / 10);
-    put_byte(out, last, b'0' + (n % 10) as u8)
-}
-
-// The hex digit of `d`.
-fn hex_digit(d: u8) -> u8
-    requires { ⌜ d < 16 ⌝ }
-    ensures { λ r. ⌜ r ≡ hexDigit d ⌝ }
-{
-    if d < 10 { b'0' + d } else { b'a' + d % 10 }
-}
-
-// Puts the bytes of `word` in hex, `-` if it has none.
-fn put_word(out: &mut [u8], at: usize, word: &[u8]) -> usize
-    requires { ⌜ at + length (shown (now word)) ≤ length (now out) ⌝ }
-    ensures { λ r. ⌜ Appended (now (out .entry)) (now (out .exit)) at (shown (now (word .entry))) r ⌝ }
-{
-    if word.len() == 0 {
-        return put_byte(out, at, b'-');
-    }
-    let mut next = at;
-    let mut i = 0;
-    while i < word.len() {
-        next = put_byte(out, next, hex_digit(word[i] / 16));
-        next = put_byte(out, next, hex_digit(word[i] % 16));
-        i += 1;
-    }
-    next
-}
-
 // Puts two numbers, each behind its text, and a line end.
 fn put_counts(
     out: &mut [u8],
@@ -99,11 +41,11 @@ fn put_counts(
     requires { ⌜ at + length (counted (now before) first (now between) second) ≤ length (now out) ⌝ }
     ensures { λ r. ⌜ Appended (now (out .entry)) (now (out .exit)) at (counted (now (before .entry)) first (now (between .entry)) second) r ⌝ }
 {
-    let next = put_text(out, at, before);
-    let next = put_decimal(out, next, first);
-    let next = put_text(out, next, between);
-    let next = put_decimal(out, next, second);
-    put_byte(out, next, b'\n')
+    let next = pieces::put_text(out, at, before);
+    let next = pieces::put_decimal(out, next, first);
+    let next = pieces::put_text(out, next, between);
+    let next = pieces::put_decimal(out, next, second);
+    pieces::put_byte(out, next, b'\n')
 }
 
 // Puts the line of one side.
@@ -111,7 +53,7 @@ fn put_side(out: &mut [u8], at: usize, name: &[u8], side: Side) -> usize
     requires { ⌜ at + length (now name ++ told (sideOf side)) ≤ length (now out) ⌝ }
     ensures { λ r. ⌜ Appended (now (out .entry)) (now (out .exit)) at (now (name .entry) ++ told (sideOf side)) r ⌝ }
 {
-    let next = put_text(out, at, name);
+    let next = pieces::put_text(out, at, name);
     if side.number == DONE {
         return put_counts(
             out,
@@ -138,9 +80,9 @@ fn put_outcome(out: &mut [u8], at: usize, number: u8, rounds: usize, word: &[u8]
     ensures { λ r. ⌜ Appended (now (out .entry)) (now (out .exit)) at (outcomeLines (outcome number rounds (now (word .entry)))) r ⌝ }
 {
     if number == SAME {
-        let next = put_text(out, at, b"same rounds ");
-        let next = put_decimal(out, next, rounds);
-        return put_byte(out, next, b'\n');
+        let next = pieces::put_text(out, at, b"same rounds ");
+        let next = pieces::put_decimal(out, next, rounds);
+        return pieces::put_byte(out, next, b'\n');
     }
     let next = put_counts(
         out,
@@ -150,9 +92,9 @@ fn put_outcome(out: &mut [u8], at: usize, number: u8, rounds: usize, word: &[u8]
         b" rounds ",
         rounds,
     );
-    let next = put_text(out, next, b"word ");
-    let next = put_word(out, next, word);
-    put_byte(out, next, b'\n')
+    let next = pieces::put_text(out, next, b"word ");
+    let next = pieces::put_word(out, next, word);
+    pieces::put_byte(out, next, b'\n')
 }
 
 // Puts the program's lines at the start of `out`; answers how many bytes they are.

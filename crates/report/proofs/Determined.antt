@@ -29,7 +29,7 @@ use Rattle.scope.proofs.Run.{sound-closed}
 use Rattle.compare.proofs.Results.{compares-fits}
 use Rattle.put_lines.specs.Printing.{counted, told}
 use Rattle.put_lines.proofs.Lining.{told-done, told-refused, printed-left, printed-right, printed-both}
-use Rattle.put_lines.proofs.Appending.{appended-as, appended-one}
+use Rattle.pieces.proofs.Appending.{appended-as, appended-one}
 use Rattle.report.specs.Report.{Compiling, compiling, Comparing, comparing, puts, Reports, reports}
 
 -- ---- one side

@@ -5,12 +5,11 @@ use Prim.Native.Nat.{_+_, _*_, _-_, _<_, _≤_}
 use native.Mathlib.Omega.{arith}
 use lib.ListN.{length, take}
 use Rattle.scope.specs.Lines.{hexes}
-use Rattle.put_lines.specs.Appended.{Appended}
-use Rattle.put_lines.proofs.Appending.{appended-none, appended-as}
-use Rattle.put_lines.proofs.Numerals.{shown-none, shown-length}
-use Rattle.put_lines.proofs.Lining.{appended-hexes, appended-shown}
-use Rattle.put_lines.proofs.put_word.Statement.{statement}
-use Rattle.put_lines.proofs.put_word.Tie as tie
+use Rattle.pieces.specs.Appended.{Appended}
+use Rattle.pieces.proofs.Appending.{appended-none, appended-as, appended-hexes, appended-shown}
+use Rattle.pieces.proofs.Numerals.{shown-none, shown-length}
+use Rattle.pieces.proofs.put_word.Statement.{statement}
+use Rattle.pieces.proofs.put_word.Tie as tie
 
 abbrev Inv-loop : tie.InvT-loop
 Inv-loop out₀ at word next₀ i₀ out next i = (0 < length word) × (i ≤ length word) × (next ≡ at + 2 * i) × Appended out₀ out at (hexes (take i word)) next

@@ -1,8 +1,8 @@
 -- One store.
-use Rattle.put_lines.proofs.Appending.{appended-byte}
+use Rattle.pieces.proofs.Appending.{appended-byte}
 use borrow.Author.Needs.{needs}
-use Rattle.put_lines.proofs.put_byte.Statement.{statement}
-use Rattle.put_lines.proofs.put_byte.Tie as tie
+use Rattle.pieces.proofs.put_byte.Statement.{statement}
+use Rattle.pieces.proofs.put_byte.Tie as tie
 
 slice-write-out : tie.Need-slice-write-out
 slice-write-out c = search needs

@@ -3,18 +3,21 @@
 --   appended-as: the same bytes, said otherwise
 --   appended-join: what is put at the place behind what was put
 --   appended-text: a text that is copied to the place
+--   appended-hexes, appended-shown: a word that is put up to its byte i: one byte more, and no more bytes
 --   appended-one: the buffer and the place are determined
 --   room-behind: room for two is, behind the first, room for the second
-use Prim.Native.Nat.{ℕ, _+_, _-_, _≤_, _<_}
+use Prim.Native.Nat.{ℕ, _+_, _-_, _/_, _%_, _≤_, _<_}
 use mathlib.Core.Path.{_≡_, refl, sym, ap, subst, _∙_}
 use mathlib.Core.List.{List, [], _∷_, _++_, append-assoc, append-nil}
 use native.Mathlib.Omega.{arith}
 use native.Mathlib.Numerals.{add-one}
 use borrow.Rule.Slice.PartMut.{putMid, postOf, same-len-mid, mid-len, drop-put}
 use lib.ListN.{length, getD, take, drop, set, length-append, length-set, take-append-drop}
-use lib.Seq.{length-take-le, take-suc-set, take-at, drop-set-lt, drop-drop, ext-getD}
+use lib.Seq.{length-take-le, take-all, take-suc, take-suc-set, take-at, drop-set-lt, drop-drop, ext-getD}
 use Rattle.scope.specs.Buffers.{Written}
-use Rattle.put_lines.specs.Appended.{Appended}
+use Rattle.scope.specs.Lines.{hexDigit, hexes, shown}
+use Rattle.pieces.specs.Appended.{Appended}
+use Rattle.pieces.proofs.Numerals.{hexes-join, shown-some}
 
 pub appended-none : (old : List ℕ) (at : ℕ) → Appended old old at [] at
 appended-none old at = record { place = omega arith; size = refl; front = sym (append-nil (take at old)); tail = refl }
@@ -71,3 +74,22 @@ appended-one {old} {a} {b} {l} {at} {m} {n} p q =
 
 pub room-behind : {a b k : List ℕ} (l : List ℕ) {at m : ℕ} → Appended a b at k m → at + length (k ++ l) ≤ length a → m + length l ≤ length b
 room-behind {a} {b} {k} l p h = omega (arith, length-append k l, p .place, p .size)
+
+-- ---- a word
+
+module _ {old new : List ℕ} {at n : ℕ} (word : List ℕ) (i : ℕ) (p : Appended old new at (hexes (take i word)) n) where
+  -- the two digits of the next byte
+  pub appended-hexes : {one two : List ℕ} {d e m r : ℕ} → i < length word → d ≡ hexDigit (getD word i 0 / 16) → e ≡ hexDigit (getD word i 0 % 16)
+      → Appended new one n (d ∷ []) m → Appended one two m (e ∷ []) r → Appended old two at (hexes (take (i + 1) word)) r
+  unfolding hexes
+  appended-hexes {one} {two} {d} {e} {m} {r} h f g q s =
+      let two-more : d ∷ e ∷ [] ≡ hexes (getD word i 0 ∷ []) = rw (f, g) in
+      let one-more : take i word ++ (getD word i 0 ∷ []) ≡ take (i + 1) word = rw (add-one i, take-suc word i 0) in
+      appended-as
+      (append-assoc (hexes (take i word)) (d ∷ []) (e ∷ []) ∙ ap (λ l. hexes (take i word) ++ l) two-more
+      ∙ sym (hexes-join (take i word) (getD word i 0 ∷ []))
+      ∙ ap hexes one-more)
+      (appended-join (appended-join p q) s)
+
+  pub appended-shown : 0 < length word → length word ≤ i → Appended old new at (shown word) n
+  appended-shown some h = appended-as (ap hexes (take-all i word h) ∙ sym (shown-some word some)) p

@@ -1,9 +1,9 @@
 -- Two ranges of digits.
-use Rattle.put_lines.proofs.Numerals.{hex-low, hex-high}
+use Rattle.pieces.proofs.Numerals.{hex-low, hex-high}
 use mathlib.Core.Path.{sym}
 use borrow.Author.Needs.{needs}
-use Rattle.put_lines.proofs.hex_digit.Statement.{statement}
-use Rattle.put_lines.proofs.hex_digit.Tie as tie
+use Rattle.pieces.proofs.hex_digit.Statement.{statement}
+use Rattle.pieces.proofs.hex_digit.Tie as tie
 
 add-result : tie.Need-add-result
 add-result c = search needs

@@ -1,9 +1,9 @@
 -- The text is copied to the part behind what was put.
 use mathlib.Core.Path.{refl}
 use borrow.Author.Needs.{needs}
-use Rattle.put_lines.proofs.Appending.{appended-text}
-use Rattle.put_lines.proofs.put_text.Statement.{statement}
-use Rattle.put_lines.proofs.put_text.Tie as tie
+use Rattle.pieces.proofs.Appending.{appended-text}
+use Rattle.pieces.proofs.put_text.Statement.{statement}
+use Rattle.pieces.proofs.put_text.Tie as tie
 
 returns : tie.Need-returns
 returns c =

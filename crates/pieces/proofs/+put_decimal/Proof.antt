@@ -3,17 +3,17 @@ use borrow.Author.Needs.{needs}
 use mathlib.Core.Path.{sym, ap}
 use lib.ListN.{length}
 use native.Mathlib.Omega.{arith}
-use Rattle.put_lines.proofs.Appending.{appended-as, appended-join}
-use Rattle.put_lines.proofs.Numerals.{decimal-few, decimal-more, decimal-longer}
+use Rattle.pieces.proofs.Appending.{appended-as, appended-join}
+use Rattle.pieces.proofs.Numerals.{decimal-few, decimal-more, decimal-longer}
 use Prim.Native.Nat.{ℕ, _<_}
 use borrow.Fn.Kinds.{In}
 use borrow.Fn.PlainCycle.{Measures, is, falls, and}
-use Rattle.put_lines.proofs.put_decimal.Reads as put-decimal
-use Rattle.put_lines.proofs.put_decimal.Kinds as put-decimal-kinds
-use Rattle.put_lines.proofs.+put_decimal.Lts-put_decimal as put-decimal-lts
-use Rattle.put_lines.proofs.put_byte.Reads as put-byte-reads
-use Rattle.put_lines.proofs.+put_decimal.{statement}
-use Rattle.put_lines.proofs.+put_decimal.Tie.{close}
+use Rattle.pieces.proofs.put_decimal.Reads as put-decimal
+use Rattle.pieces.proofs.put_decimal.Kinds as put-decimal-kinds
+use Rattle.pieces.proofs.+put_decimal.Lts-put_decimal as put-decimal-lts
+use Rattle.pieces.proofs.put_byte.Reads as put-byte-reads
+use Rattle.pieces.proofs.+put_decimal.{statement}
+use Rattle.pieces.proofs.+put_decimal.Tie.{close}
 
 abbrev μ-put-decimal : Measures 1 put-decimal-kinds.ps ℕ
 μ-put-decimal κs a = a .1 .1 .0
