@@ -7,8 +7,8 @@ use mathlib.Core.List.{List}
 use native.Mathlib.Omega.{arith}
 use lib.ListN.{length, length-take}
 use Rattle.scope.specs.Limits.{patternLimit}
-use Rattle.lines.specs.declared.Taking.{Taking}
-use Rattle.lines.specs.Taking.{Takes}
+use Rattle.take_lines.specs.declared.Taking.{Taking}
+use Rattle.take_lines.specs.Taking.{Takes}
 use Rattle.report.specs.Report.{Reports, reports, puts}
 use Rattle.alike.specs.Input.{Read, read, Lines}
 

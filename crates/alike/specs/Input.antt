@@ -9,8 +9,8 @@ use mathlib.Core.Path.{_≡_}
 use mathlib.Core.List.{List}
 use lib.ListN.{length}
 use Rattle.scope.specs.Limits.{patternLimit}
-use Rattle.lines.specs.declared.Taking.{Taking}
-use Rattle.lines.specs.Taking.{Taken}
+use Rattle.take_lines.specs.declared.Taking.{Taking}
+use Rattle.take_lines.specs.Taking.{Taken}
 use Rattle.alike.specs.declared.Reading.{Reading}
 
 pub data Read (t : Taking) (left right : List ℕ) : Type 0 where

@@ -1,6 +1,6 @@
 // Compares two patterns: reads them as the two lines of its standard input, and prints what compiling each and comparing both answered. It only reads and
-// writes; the lines are taken and put by `lines`, and what they say is the report's.
-use lines::Taking;
+// writes; the lines are taken by `take_lines`, and what is printed is the report's.
+use take_lines::Taking;
 ghost use mathlib.Core.Path.{_≡_};
 ghost use Prim.Native.Nat.{_+_};
 ghost use lib.ListN.{length};
@@ -26,13 +26,13 @@ fn take_lines(left: &mut [u8], right: &mut [u8]) -> Reading
     ensures { λ r. ⌜ Lines (r .taking) (now (left .exit)) (now (right .exit)) ⌝ }
     ensures { λ r. ⌜ Stopped r ⌝ }
 {
-    let mut taking = lines::begin();
+    let mut taking = take_lines::begin();
     let mut reads: usize = 0;
     loop {
         let mut block = io::buffer();
         let answer = libc::read(0, &mut block);
         let got = io::count(answer, &block);
-        taking = lines::take_block(taking, &block[..got], left, right);
+        taking = take_lines::take_block(taking, &block[..got], left, right);
         reads += 1;
         let so_far = Reading { taking, got, reads };
         if got == 0 {
@@ -54,7 +54,7 @@ fn main() {
     let taking = reading.taking;
     let first = taking.first;
     let second = taking.second;
-    let mut out = [0u8; lines::LINES];
+    let mut out = [0u8; put_lines::LINES];
     let n = report::report(&left[..first], &right[..second], &mut out);
     io::write_all(1, &out[..n]);
 }

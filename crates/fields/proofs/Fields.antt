@@ -1,37 +1,27 @@
--- Fields of a bit sequence: how large they are, how two stand side by side, and how one is read from two bytes.
---   holds-lt, holds-join: a field of w bits is below 2 ^ w; two side by side make one
---   zeros, all-zero: zero bits make 0, and only they do
+-- Fields of a bit sequence: how large they are, and how two stand side by side.
+--   holds-lt: a field of w bits is below 2 ^ w
+--   seen, holds-join: the bits from q + d on, seen from q; two fields side by side make one
+--   zeros: zero bits make 0
 --   next-field, room-for: where field i + 1 begins, and that field i ends within all n
---   past, form-bit, form-byte: the bits of the bytes f: 0 past the end, below 2, and eight for each byte
---   field-of: a field of w bits in two bytes
---   form-size, form-small: how many bytes the form of a sound room has, and that they are bytes
---   sound-laid: the bits of a form of a sound room are laid out for it
-use Prim.Native.Nat.{ℕ, zero, suc, _+_, _*_, _/_, _%_, _^_, _≤_, _<_}
+--   form-size: how many bytes the form of a sound room has
+use Prim.Native.Nat.{ℕ, zero, suc, _+_, _*_, _/_, _^_, _≤_, _<_}
 use mathlib.Core.Path.{_≡_, refl, sym, ap, _∙_}
-use mathlib.Core.Logic.{inl, inr}
-use mathlib.Core.List.{List, [], append-nil}
-use native.Mathlib.Nat.{mod-lt, mul-le-mul-right, suc-mul, zero-add, add-assoc, add-mul, mul-assoc}
+use mathlib.Core.List.{List}
+use native.Mathlib.Nat.{mul-le-mul-right, suc-mul, add-assoc}
 use native.Mathlib.Numerals.{add-one}
 use native.Mathlib.Omega.{arith}
-use lib.Dec.{lit<}
-use lib.Pow.{pow-add, high, low as low-bits}
-use lib.ListN.{length, getD, List·getD-eq-default}
-use Rattle.scope.specs.Limits.{byteValues}
 use Rattle.scope.specs.Room.{Sound}
-use Rattle.scope.specs.Form.{value, fields, formBits, formLength, formByte, FormOf}
-use Rattle.scope.proofs.Tests.{split}
-use Rattle.scope.proofs.Form.{fields-length, form-bits}
-use Rattle.scope.specs.Laid.{from, Holds, Laid, endBit}
-use Rattle.scope.proofs.Fields.{value-ext, value-lt, value-join, value-one, fields-at, fields-are}
-use Rattle.scope.proofs.Laid.{form-laid, laid-ext}
-use Rattle.fields.specs.Fields.{roomBit, formBit}
+use Rattle.scope.specs.Form.{value, formLength}
+use Rattle.scope.proofs.Form.{form-bits}
+use Rattle.scope.specs.Laid.{from, Holds, endBit}
+use Rattle.scope.proofs.Fields.{value-ext, value-lt, value-join}
 
 -- a field of w bits is below 2 ^ w
 pub holds-lt : (b : ℕ → ℕ) (p w x : ℕ) → ((j : ℕ) → b j < 2) → Holds b p w x → x < 2 ^ w
 holds-lt b p w x k h = rw (← h) (value-lt w (from b p) (λ j l. k (p + j)))
 
 -- the bits from q + d on, seen from q
-seen : (b : ℕ → ℕ) (q d p n : ℕ) → q + d ≡ p → value n (λ j. from b q (d + j)) ≡ value n (from b p)
+pub seen : (b : ℕ → ℕ) (q d p n : ℕ) → q + d ≡ p → value n (λ j. from b q (d + j)) ≡ value n (from b p)
 seen b q d p n e = value-ext n (λ j. from b q (d + j)) (from b p) (λ j l. ap b (sym (add-assoc q d j) ∙ ap (λ (z : ℕ). z + j) e))
 
 -- a field of v bits, and behind it one of w bits
@@ -44,14 +34,6 @@ unfolding value
 zeros b p zero h = refl
 zeros b p (suc n) h = rw (zeros b p n h, h (p + n) (omega arith))
 
--- and only they do
-pub all-zero : (n : ℕ) (f : ℕ → ℕ) → value n f ≡ 0 → (j : ℕ) → j < n → f j ≡ 0
-unfolding value
-all-zero (suc n) f e j l = elim (split j n) [
-  | inl k ↦ all-zero n f (omega arith) j k
-  | inr k ↦ let t : j ≡ n = omega arith in rw t (omega arith)
-]
-
 -- where field i ends, field i + 1 begins
 pub next-field : (p i w : ℕ) → p + i * w + w ≡ p + (i + 1) * w
 next-field p i w = rw (add-one i) (omega (arith, suc-mul i w))
@@ -60,69 +42,7 @@ next-field p i w = rw (add-one i) (omega (arith, suc-mul i w))
 pub room-for : (p i n w l : ℕ) → i < n → p + n * w ≤ l → p + i * w + w ≤ l
 room-for p i n w l h k = omega (arith, suc-mul i w, mul-le-mul-right w h)
 
--- ---- the bits of a form's bytes
-
--- past the end
-pub past : (f : List ℕ) (j : ℕ) → 8 * length f ≤ j → formBit f j ≡ 0
-past f j h = List·getD-eq-default (fields 8 f) 0 {n = j} (omega (arith, fields-length 8 f))
-
--- a bit is 0 or 1
-pub form-bit : (f : List ℕ) (j : ℕ) → formBit f j < 2
-form-bit f = fields-are 8 f
-
--- each byte, 0 past the end
-pub form-byte : (f : List ℕ) (i : ℕ) → getD f i 0 < byteValues → Holds (formBit f) (i * 8) 8 (getD f i 0)
-form-byte f i b = elim (split i (length f)) [
-  | inl h ↦ rw (append-nil (fields 8 f), zero-add (i * 8)) at (fields-at [] 8 f [] 0 refl i h b)
-  | inr h ↦ rw (List·getD-eq-default f 0 {n = i} h) (zeros (formBit f) (i * 8) 8 (λ j l. past f j (omega arith)))
-]
-
--- a field of w bits, o bits into two bytes and r bits before their end
-pub field-of :
-    (b : ℕ → ℕ) (i o w r x y p : ℕ) → ((j : ℕ) → b j < 2) → Holds b (i * 8) 8 x → Holds b ((i + 1) * 8) 8 y → o + (w + r) ≡ 16 → i * 8 + o ≡ p
-    → Holds b p w ((x * 256 + y) / 2 ^ r % 2 ^ w)
-field-of b i o w r x y p k hx hy e ep =
-    let vo : ℕ = value o (from b (i * 8)) in
-    let vw : ℕ = value w (from b p) in
-    let vr : ℕ = value r (from b (p + w)) in
-    let two : value 16 (from b (i * 8)) ≡ x * 256 + y = value-join 8 8 (from b (i * 8)) ∙ rw (seen b (i * 8) 8 ((i + 1) * 8) 8 (omega arith), hx, hy) in
-    let all : value 16 (from b (i * 8)) ≡ vo * 2 ^ (w + r) + value (w + r) (from b p) =
-    ap (λ (n : ℕ). value n (from b (i * 8))) (sym e) ∙ value-join o (w + r) (from b (i * 8)) ∙ ap (λ (n : ℕ). vo * 2 ^ (w + r) + n) (seen b (i * 8) o p (w + r) ep) in
-    let sum : x * 256 + y ≡ (vo * 2 ^ w + vw) * 2 ^ r + vr =
-    sym two ∙ all ∙ omega (arith, holds-join b p w r vw vr refl refl, add-mul (vo * 2 ^ w) vw (2 ^ r), mul-assoc vo (2 ^ w) (2 ^ r), ap (λ (z : ℕ). vo * z) (pow-add 2 w r)) in
-    let small : vr < 2 ^ r = value-lt r (from b (p + w)) (λ j l. k (p + w + j)) in
-    let little : vw < 2 ^ w = value-lt w (from b p) (λ j l. k (p + j)) in
-    let top : (x * 256 + y) / 2 ^ r ≡ vo * 2 ^ w + vw = ap (λ (n : ℕ). n / 2 ^ r) sum ∙ high (vo * 2 ^ w + vw) r small in
-    sym (ap (λ (n : ℕ). n % 2 ^ w) top ∙ low-bits vo w little)
-
--- ---- the form of a sound room
-
 -- filled to whole bytes
 pub form-size : (m : List ℕ) → Sound m → (endBit m + 7) / 8 ≡ formLength m
 unfolding formLength
 form-size m s = ap (λ (x : ℕ). (x + 7) / 8) (omega (arith, form-bits m s))
-
--- its bytes are bytes
-pub form-small : (m f : List ℕ) → Sound m → FormOf m f → (i : ℕ) → getD f i 0 < byteValues
-unfolding formByte
-form-small m f s u i = elim (split i (formLength m)) [
-  | inl h ↦ rw (u .bytes i h) (value-lt 8 (from (roomBit m) (i * 8)) (λ j l. form-laid m s .bit (i * 8 + j)))
-  | inr h ↦ rw (List·getD-eq-default f 0 {n = i} (omega (arith, u .size))) (lit< tt)
-]
-
--- the bits of the bytes are those of the form
-same-bit : (m f : List ℕ) → Sound m → FormOf m f → (j : ℕ) → roomBit m j ≡ formBit f j
-unfolding formByte formLength
-same-bit m f s u j = elim (split (j / 8) (formLength m)) [
-  | inl h ↦
-      let bit : (i : ℕ) → roomBit m i < 2 = form-laid m s .bit in
-      let e : formByte m (j / 8) ≡ value 8 (from (formBit f) (j / 8 * 8)) = sym (form-byte f (j / 8) (form-small m f s u (j / 8)) ∙ u .bytes (j / 8) h) in
-      let t = value-one 8 (from (roomBit m) (j / 8 * 8)) (from (formBit f) (j / 8 * 8)) (λ i l. bit (j / 8 * 8 + i)) (λ i l. form-bit f (j / 8 * 8 + i)) e (j % 8) (mod-lt j (lit< tt)) in
-      let z : j / 8 * 8 + j % 8 ≡ j = omega arith in
-      rw z at t
-  | inr h ↦ List·getD-eq-default (formBits m) 0 {n = j} (omega arith) ∙ sym (past f j (omega (arith, u .size)))
-]
-
--- so they are laid out for the room
-pub sound-laid : (m f : List ℕ) → Sound m → FormOf m f → Laid (formBit f) m
-sound-laid m f s u = laid-ext (roomBit m) (formBit f) m (same-bit m f s u) (form-laid m s)

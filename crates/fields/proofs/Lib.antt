@@ -1,7 +1,3 @@
--- Laws that belong to no one function; callers cite those of Image.
-mod Shifts
-mod Fields
-mod Filled
-mod Parts
-mod Taken
-pub mod Image
+-- Laws that belong to no one function.
+pub mod Shifts
+pub mod Fields

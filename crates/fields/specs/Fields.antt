@@ -1,22 +1,15 @@
 -- The bits of a form: a sequence b of bits, 0 past its end.
---   byteOf b i: the byte i of the bits b
---   roomBit m, formBit f: the bits of the form of the room m, and of the bytes f
+--   roomBit m: the bits of the form of the room m
 --   bitsOf n k: how many bits the form of a room with n states and k classes has, before filling
 --   Ahead b p w m start n: from the bit p on, b has n fields of w bits, for the bytes of m from `start` on
 use Prim.Native.Nat.{ℕ, _+_, _*_, _<_}
 use mathlib.Core.List.{List}
 use lib.ListN.{getD}
-use Rattle.scope.specs.Form.{stateBits, value, fields, formBits}
-use Rattle.scope.specs.Laid.{bitOf, from, Holds, marksBit}
-
-abbrev pub byteOf : (ℕ → ℕ) → ℕ → ℕ
-byteOf b i = value 8 (from b (i * 8))
+use Rattle.scope.specs.Form.{stateBits, formBits}
+use Rattle.scope.specs.Laid.{bitOf, Holds, marksBit}
 
 abbrev pub roomBit : List ℕ → ℕ → ℕ
 roomBit m = bitOf (formBits m)
-
-abbrev pub formBit : List ℕ → ℕ → ℕ
-formBit f = bitOf (fields 8 f)
 
 -- "That is 1,553 + n + 7·n·k bits before filling."
 abbrev pub bitsOf : ℕ → ℕ → ℕ

@@ -1,4 +1,2 @@
--- The bit fields of a form, on their way out and back.
+-- The bit fields of a form.
 pub mod Fields
-pub mod Filled
-pub mod Image

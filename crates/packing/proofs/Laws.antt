@@ -12,8 +12,8 @@ use Rattle.scope.specs.Buffers.{Written, TailKept}
 use Rattle.scope.specs.Room.{SameBytes}
 use Rattle.scope.proofs.Moved.{canonical-moved}
 use native.Mathlib.Omega.{arith}
-use Rattle.fields.specs.Image.{Image, Imageless}
-use Rattle.fields.proofs.Image.{image-form, image-canonical, formless, form-moved}
+use Rattle.take_fields.specs.Image.{Image, Imageless}
+use Rattle.take_fields.proofs.Image.{image-form, image-canonical, formless, form-moved}
 
 -- the bytes f are the form of no canonical room
 abbrev pub Refused : List ℕ → Type 0

@@ -33,7 +33,7 @@ pub fn pack(room: &[u8], form: &mut [u8], bytes: &mut [u8], words: &mut [u64]) -
     if form.len() < fields::form_length(room) {
         return Packed::Room;
     }
-    Packed::Done(fields::pack_fields(room, form))
+    Packed::Done(put_fields::pack_fields(room, form))
 }
 
 // Unpacking: writes the canonical room whose form the bytes are. The room is made in the scratch, and judged there.
@@ -43,7 +43,7 @@ pub fn unpack(form: &[u8], room: &mut [u8], bytes: &mut [u8], words: &mut [u64])
     if !slices::is_lent(room, bytes, words) {
         return Unpacked::Room;
     }
-    if !fields::unpack_fields(form, bytes) {
+    if !take_fields::unpack_fields(form, bytes) {
         slices::clear(bytes, words);
         return Unpacked::Form;
     }

@@ -1,6 +1,7 @@
 // The C boundary: each public operation as a function of slices and numbers. A slice is a pointer and a length, as Rust passes `&[u8]`. The answer's number is
-// returned, and the numbers that come with it (a place, a length, rounds) are written through references, as 0 where the answer has none. Nothing else happens here:
-// each function calls its operation, and its contract is the operation's own relation, with what is returned and written in the place of the answer.
+// returned, and the numbers that come with it (a place, a length, rounds) are written through references, as 0 where the answer has none. Nothing
+// happens here: each function forwards to the one of a small crate over its operation (`compile_numbers` and so on), which takes the answer apart. The contract of
+// both is the operation's own relation, with what is returned and written in the place of the answer.
 ghost use Rattle.scope.specs.Compare.{Compares};
 ghost use Rattle.scope.specs.Compile.{Compiles};
 ghost use Rattle.scope.specs.Match.{Matches};
@@ -21,9 +22,7 @@ pub extern "C" fn palgondur_compile(
 ) -> u8
     ensures { λ r. ⌜ Compiles (now (pattern .entry)) (now (room .entry)) (now (room .exit)) (now (bytes .entry)) (now (bytes .exit)) (now (words .entry)) (now (words .exit)) r (now (place .exit)) ⌝ }
 {
-    let compiled = compile::compile(pattern, room, bytes, words);
-    *place = compiled.place();
-    compiled.number()
+    compile_numbers::compile(pattern, room, bytes, words, place)
 }
 
 // Minimising: 0 Done, 1 ROOM, 9 FORM.
@@ -36,8 +35,7 @@ pub extern "C" fn palgondur_minimise(
 ) -> u8
     ensures { λ r. ⌜ Minimises (now (from .entry)) (now (to .entry)) (now (to .exit)) (now (bytes .entry)) (now (bytes .exit)) (now (words .entry)) (now (words .exit)) r ⌝ }
 {
-    let minimised = smallest::minimise(from, to, bytes, words);
-    minimised.number()
+    minimise_numbers::minimise(from, to, bytes, words)
 }
 
 // Matching: 0 Accepted, 64 Dead with its place, 65 Unfinished, 1 ROOM, 9 FORM.
@@ -45,9 +43,7 @@ pub extern "C" fn palgondur_minimise(
 pub extern "C" fn palgondur_match(room: &[u8], text: &[u8], place: &mut usize) -> u8
     ensures { λ r. ⌜ Matches (now (room .entry)) (now (text .entry)) r (now (place .exit)) ⌝ }
 {
-    let matched = matching::match_text(room, text);
-    *place = matched.place();
-    matched.number()
+    match_numbers::match_text(room, text, place)
 }
 
 // Comparing: 0 Same with rounds, 66 Separated with length and rounds, 1 ROOM, 9 FORM.
@@ -63,10 +59,7 @@ pub extern "C" fn palgondur_compare(
 ) -> u8
     ensures { λ r. ⌜ Compares (now (left .entry)) (now (right .entry)) (now (word .entry)) (now (word .exit)) (now (bytes .entry)) (now (bytes .exit)) (now (words .entry)) (now (words .exit)) r (now (length .exit)) (now (rounds .exit)) ⌝ }
 {
-    let compared = compare::compare(left, right, word, bytes, words);
-    *length = compared.length();
-    *rounds = compared.rounds();
-    compared.number()
+    compare_numbers::compare(left, right, word, bytes, words, length, rounds)
 }
 
 // Packing: 0 Done with the length of the form, 1 ROOM, 9 FORM.
@@ -80,9 +73,7 @@ pub extern "C" fn palgondur_pack(
 ) -> u8
     ensures { λ r. ⌜ Packs (now (room .entry)) (now (form .entry)) (now (form .exit)) (now (bytes .entry)) (now (bytes .exit)) (now (words .entry)) (now (words .exit)) r (now (length .exit)) ⌝ }
 {
-    let packed = packing::pack(room, form, bytes, words);
-    *length = packed.length();
-    packed.number()
+    pack_numbers::pack(room, form, bytes, words, length)
 }
 
 // Unpacking: 0 Done, 1 ROOM, 9 FORM.
@@ -95,8 +86,7 @@ pub extern "C" fn palgondur_unpack(
 ) -> u8
     ensures { λ r. ⌜ Unpacks (now (form .entry)) (now (room .entry)) (now (room .exit)) (now (bytes .entry)) (now (bytes .exit)) (now (words .entry)) (now (words .exit)) r ⌝ }
 {
-    let unpacked = packing::unpack(form, room, bytes, words);
-    unpacked.number()
+    pack_numbers::unpack(form, room, bytes, words)
 }
 
 // Opening a form of the desk: 0 Done, 1 ROOM, 9 FORM, 21 FIELDS.
@@ -104,8 +94,7 @@ pub extern "C" fn palgondur_unpack(
 pub extern "C" fn palgondur_desk_open(count: usize, rooms: &[u8], form: &mut [u8]) -> u8
     ensures { λ r. ⌜ Opens count (now (rooms .entry)) (now (form .entry)) (now (form .exit)) r ⌝ }
 {
-    let opened = desk::open_form(count, rooms, form);
-    opened.number()
+    desk_numbers::open_form(count, rooms, form)
 }
 
 // A key at the desk: 0 Done, 1 ROOM, 9 FORM, 10 DEAD BYTE, 11 UNFINISHED, 12 LENGTH, 13 CLOSED.
@@ -113,6 +102,5 @@ pub extern "C" fn palgondur_desk_open(count: usize, rooms: &[u8], form: &mut [u8
 pub extern "C" fn palgondur_desk_key(rooms: &[u8], form: &mut [u8], key: u8) -> u8
     ensures { λ r. ⌜ Presses (now (rooms .entry)) (now (form .entry)) (now (form .exit)) key r ⌝ }
 {
-    let pressed = desk::press(rooms, form, key);
-    pressed.number()
+    desk_numbers::press(rooms, form, key)
 }

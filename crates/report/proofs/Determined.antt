@@ -27,9 +27,9 @@ use Rattle.scope.proofs.Compile.{lent-one, one-room}
 use Rattle.scope.proofs.Moved.{moved-agree, sound-moved}
 use Rattle.scope.proofs.Run.{sound-closed}
 use Rattle.compare.proofs.Results.{compares-fits}
-use Rattle.lines.specs.Printing.{counted, told}
-use Rattle.lines.proofs.Lining.{told-done, told-refused, printed-left, printed-right, printed-both}
-use Rattle.lines.proofs.Appending.{appended-as, appended-one}
+use Rattle.put_lines.specs.Printing.{counted, told}
+use Rattle.put_lines.proofs.Lining.{told-done, told-refused, printed-left, printed-right, printed-both}
+use Rattle.pieces.proofs.Appending.{appended-as, appended-one}
 use Rattle.report.specs.Report.{Compiling, compiling, Comparing, comparing, puts, Reports, reports}
 
 -- ---- one side

@@ -13,7 +13,7 @@ use Rattle.scope.specs.Limits.{wordBytes}
 use Rattle.scope.specs.Lines.{Side}
 use Rattle.scope.specs.Room.{statesOf, classesOf}
 use Rattle.compare.proofs.Results.{compares-fits}
-use Rattle.lines.specs.Printing.{outcome}
+use Rattle.put_lines.specs.Printing.{outcome}
 use Rattle.report.specs.Report.{Compiling, compiling, Comparing, comparing}
 
 -- a side

@@ -12,7 +12,7 @@ use Rattle.scope.specs.Compile.{Compiles}
 use Rattle.scope.specs.Compare.{CompareLent, Compares}
 use Rattle.scope.specs.Lines.{Side, Outcome, printed}
 use Rattle.scope.specs.Room.{statesOf, classesOf}
-use Rattle.lines.specs.Appended.{Appended}
+use Rattle.pieces.specs.Appended.{Appended}
 
 -- into whatever room, with whatever scratch
 pub data Compiling (text room : List ℕ) (a : Side) : Type 0 where

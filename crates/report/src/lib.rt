@@ -1,21 +1,13 @@
 // What the program prints for two texts: both are compiled, their rooms compared, and the lines put together. A side that is refused leaves its room empty,
 // which comparing refuses; then nothing is printed but the lines of the sides.
-use lines::Side;
+use put_lines::Side;
 use scope::Machine;
-ghost use mathlib.Core.Path.{_≡_};
 ghost use Prim.Native.Nat.{_≤_};
 ghost use lib.ListN.{length};
 ghost use Rattle.scope.specs.Buffers.{Lent};
 ghost use Rattle.scope.specs.Compare.{CompareLent};
-ghost use Rattle.lines.specs.Printing.{sideOf};
+ghost use Rattle.put_lines.specs.Printing.{sideOf};
 ghost use Rattle.report.specs.Report.{Compiling, Puts, Reports};
-
-// A byte as a number.
-fn wide(x: u8) -> usize
-    ensures { λ r. ⌜ r ≡ x ⌝ }
-{
-    x as usize
-}
 
 // Compiles one side into its room.
 fn side(text: &[u8], room: &mut [u8], bytes: &mut [u8], words: &mut [u64]) -> Side
@@ -23,11 +15,12 @@ fn side(text: &[u8], room: &mut [u8], bytes: &mut [u8], words: &mut [u64]) -> Si
     ensures { λ r. ⌜ Compiling (now (text .entry)) (now (room .exit)) (sideOf r) ⌝ }
 {
     let compiled = compile::compile(text, room, bytes, words);
+    let machine = room::head(room);
     Side {
         number: compiled.number(),
         place: compiled.place(),
-        states: wide(room[0]),
-        classes: wide(room[1]),
+        states: machine.states,
+        classes: machine.classes,
     }
 }
 
@@ -42,22 +35,22 @@ fn put(
     bytes: &mut [u8],
     words: &mut [u64],
 ) -> usize
-    requires { do ⌜ ((← ⟦lines::LINES⟧) ≤ length (now out)) × CompareLent (now left) (now right) (now word) (now bytes) (now words) ⌝ }
+    requires { do ⌜ ((← ⟦put_lines::LINES⟧) ≤ length (now out)) × CompareLent (now left) (now right) (now word) (now bytes) (now words) ⌝ }
     ensures { λ r. ⌜ Puts (sideOf a) (sideOf b) (now (left .entry)) (now (right .entry)) (now (out .entry)) (now (out .exit)) r ⌝ }
-    ensures { λ r. do ⌜ r ≤ (← ⟦lines::LINES⟧ .entry) ⌝ }
+    ensures { λ r. do ⌜ r ≤ (← ⟦put_lines::LINES⟧ .entry) ⌝ }
 {
     let compared = compare::compare(left, right, word, bytes, words);
     let number = compared.number();
     let rounds = compared.rounds();
     let count = compared.length();
-    lines::print_lines(out, a, b, number, rounds, &word[..count])
+    put_lines::print_lines(out, a, b, number, rounds, &word[..count])
 }
 
 // Puts the program's lines for two texts at the start of `out`; answers how many bytes they are.
 pub fn report(left: &[u8], right: &[u8], out: &mut [u8]) -> usize
-    requires { do ⌜ (← ⟦lines::LINES⟧) ≤ length (now out) ⌝ }
+    requires { do ⌜ (← ⟦put_lines::LINES⟧) ≤ length (now out) ⌝ }
     ensures { λ r. ⌜ Reports (now (left .entry)) (now (right .entry)) (now (out .entry)) (now (out .exit)) r ⌝ }
-    ensures { λ r. do ⌜ r ≤ (← ⟦lines::LINES⟧ .entry) ⌝ }
+    ensures { λ r. do ⌜ r ≤ (← ⟦put_lines::LINES⟧ .entry) ⌝ }
 {
     let mut bytes = [0u8; Machine::SCRATCH_BYTES];
     let mut words = [0u64; Machine::SCRATCH_WORDS];

@@ -3,11 +3,6 @@ use scope::Machine;
 ghost use Prim.Native.Nat.{_≤_};
 ghost use lib.ListN.{length};
 
-// A byte as a number.
-fn wide(x: u8) -> u64 {
-    x as u64
-}
-
 // Writes two numbers, each behind its text, and a line end.
 fn show(before: &[u8], first: u64, between: &[u8], second: u64) {
     io::write_all(1, before);
@@ -25,10 +20,16 @@ fn compiles(text: &[u8]) {
     let answer = compile::compile(text, &mut room, &mut bytes, &mut words);
     let number = answer.number();
     if number == 0 {
-        show(b"states ", wide(room[0]), b" classes ", wide(room[1]));
+        let machine = room::head(&room);
+        show(
+            b"states ",
+            machine.states as u64,
+            b" classes ",
+            machine.classes as u64,
+        );
         return;
     }
-    show(b"refused ", wide(number), b" at ", answer.place() as u64);
+    show(b"refused ", number as u64, b" at ", answer.place() as u64);
 }
 
 // Where the line that begins at `at` ends.

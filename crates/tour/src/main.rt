@@ -2,11 +2,6 @@
 // and how many states and classes the room has afterwards.
 use scope::Machine;
 
-// A byte as a number.
-fn wide(x: u8) -> usize {
-    x as usize
-}
-
 // Writes a name and two numbers, with no line end.
 fn show(name: &[u8], first: usize, second: usize) {
     io::write_all(1, name);
@@ -19,7 +14,7 @@ fn show(name: &[u8], first: usize, second: usize) {
 // Matches a text.
 fn matches(room: &[u8], text: &[u8]) {
     let answer = matching::match_text(room, text);
-    show(text, wide(answer.number()), answer.place());
+    show(text, answer.number() as usize, answer.place());
     io::write_all(1, b"\n");
 }
 
@@ -29,17 +24,21 @@ fn minimises(name: &[u8], from: &[u8]) {
     let mut bytes = [7u8; Machine::SCRATCH_BYTES];
     let mut words = [7u64; Machine::SCRATCH_WORDS];
     let answer = smallest::minimise(from, &mut to, &mut bytes, &mut words);
-    show(name, wide(answer.number()), wide(to[0]));
+    let machine = room::head(&to);
+    show(name, answer.number() as usize, machine.states);
     io::write_all(1, b" ");
-    io::print_decimal(1, wide(to[1]) as u64);
+    io::print_decimal(1, machine.classes as u64);
     io::write_all(1, b"\n");
 }
 
 // The machine of `(ab*|a)b`: rows (1,2,1), (1,1,1), (1,1,3), (1,1,3); state 3 accepts.
 fn sample() -> [u8; Machine::ROOM] {
     let mut room = [0u8; Machine::ROOM];
-    room[0] = 4;
-    room[1] = 3;
+    let machine = Machine {
+        states: 4,
+        classes: 3,
+    };
+    room::write_head(&mut room, machine);
     room[Machine::CLASSES_AT + 97] = 1;
     room[Machine::CLASSES_AT + 98] = 2;
     room[Machine::MARKS_AT + 3] = 1;
@@ -61,8 +60,11 @@ fn sample() -> [u8; Machine::ROOM] {
 // The same with a class that no byte has, whose cells lead from every state to acceptance, and a state that nothing reaches.
 fn padded() -> [u8; Machine::ROOM] {
     let mut room = [0u8; Machine::ROOM];
-    room[0] = 5;
-    room[1] = 4;
+    let machine = Machine {
+        states: 5,
+        classes: 4,
+    };
+    room::write_head(&mut room, machine);
     room[Machine::CLASSES_AT + 97] = 1;
     room[Machine::CLASSES_AT + 98] = 2;
     room[Machine::MARKS_AT + 3] = 1;
@@ -87,6 +89,13 @@ fn padded() -> [u8; Machine::ROOM] {
     room
 }
 
+// The machine of no word at all: but for its head all is 0.
+fn empty() -> [u8; Machine::ROOM] {
+    let mut room = [0u8; Machine::ROOM];
+    room::write_head(&mut room, Machine::empty());
+    room
+}
+
 fn main() {
     let room = sample();
     matches(&room, b"ab");
@@ -98,6 +107,9 @@ fn main() {
     matches(&wide, b"ba");
     minimises(b"canonical", &room);
     minimises(b"padded", &wide);
+    let none = empty();
+    matches(&none, b"");
+    minimises(b"empty", &none);
     let mut damaged = sample();
     damaged[Machine::MARKS_AT + 9] = 1;
     matches(&damaged, b"ab");

@@ -8,17 +8,9 @@ use Rattle.fields.proofs.form_length.Tie as tie
 
 returns : tie.Need-returns
 returns c =
-    let start = c .before .before .before .before in
-    ap (λ (x : ℕ). (x + 7) / 8) (c .form-bits .ensures .0) ∙ form-size (start .args .room .now) (start .pre)
+    let start = c .before .before .before in
+    let (states, classes) = c .before .head .ensures in
+    ap (λ (x : ℕ). (x + 7) / 8) (c .form-bits .ensures .0 ∙ rw (states, classes)) ∙ form-size (start .args .room .now) (start .pre)
 
 pub form-length-spec : {M : Type 1} → statement M
-form-length-spec =
-    tie.close
-    (tie.spec
-    (λ c. search needs)
-    (λ c. search needs)
-    (λ c. search needs)
-    (λ c. search needs)
-    (λ c κs. search needs)
-    (λ c. search needs)
-    returns)
+form-length-spec = tie.close (tie.spec (λ c κs. search needs) (λ c κs. search needs) (λ c. search needs) returns)

@@ -1,4 +1,4 @@
--- At most 128 states by at most 64 classes.
+-- At most so many states by so many classes as a room has.
 use mathlib.Core.Path.{refl}
 use native.Mathlib.Nat.{mul-le-mul}
 use native.Mathlib.Omega.{arith}

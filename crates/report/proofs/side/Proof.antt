@@ -1,11 +1,16 @@
--- The answer's number and place, and the first two bytes of the room.
+-- The answer's number and place, and the head of the room.
 use borrow.Author.Needs.{needs}
 use Rattle.report.proofs.Laws.{compiling-as}
 use Rattle.report.proofs.side.Statement.{statement}
 use Rattle.report.proofs.side.Tie as tie
 
 returns : tie.Need-returns
-returns c = compiling-as (c .before .before .before .before .before .before .before .before .before .before .before .before .before .before .before .before .before .before .before .before .pre) (c .before .before .before .before .before .before .before .before .before .before .before .before .compile .ensures) (c .before .before .before .before .before .number .ensures) (c .before .before .before .before .place .ensures) (c .before .before .wide .ensures) (c .wide2 .ensures)
+returns c =
+    let head = c .before .before in
+    let made = head .before .before .before .before .before .before .before .before in
+    let start = made .before .before .before .before .before .before .before .before in
+    let (states, classes) = head .head .ensures in
+    compiling-as (start .pre) (made .compile .ensures) (c .before .number .ensures) (c .place .ensures) states classes
 
 pub side-spec : {M : Type 1} → statement M
 side-spec =
@@ -14,9 +19,6 @@ side-spec =
     (λ c κs. search needs)
     (λ c κs. search needs)
     (λ c κs. search needs)
-    (λ c. search needs)
-    (λ c κs. search needs)
-    (λ c. search needs)
     (λ c κs. search needs)
     (λ c. search needs)
     (λ c. search needs)

@@ -1,0 +1,2 @@
+-- What stands in a buffer after some bytes were put.
+pub mod Appended

@@ -1,0 +1,2 @@
+-- What the program's lines are put from.
+pub mod Printing

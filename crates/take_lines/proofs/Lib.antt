@@ -1,0 +1,3 @@
+-- The laws that the proofs of the functions cite.
+pub mod Ending
+pub mod Blocks

@@ -1,0 +1,2 @@
+-- How the program's two lines are taken.
+pub mod Taking
