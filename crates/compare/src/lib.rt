@@ -1,10 +1,7 @@
 // Comparing two machine rooms.
 //
-// The states of both machines are refined together until nothing splits. The machines are the same exactly if their two starts then lie in one part.
-// Else there is a first round after which the starts are not together; its number is the length of the shortest strings that tell them apart. Parts only
-// get finer with each round, so it is found by halving, where each step climbs from both starts. Of these strings the first is spelled byte by byte: two
-// states that r + 1 bytes tell apart, and no fewer, are led by some byte to two states that r bytes tell apart, and the first such byte is the next of the
-// string. A byte leads where the least byte of its kind does, so only these are tried.
+// The states of both machines are refined together until nothing splits. The machines are the same exactly if their two starts then lie in one part. Else the first
+// round after which the starts are not together says how long the string is that tells them apart, and it is spelled.
 //
 // Where both rooms hold one machine byte for byte, they are the same, and its states are refined once.
 use scope::Compared;

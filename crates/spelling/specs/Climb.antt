@@ -4,7 +4,6 @@
 use Prim.Native.Nat.{ℕ, _≤_, _<_}
 use mathlib.Core.List.{List}
 use Rattle.scope.specs.Machine.{Machine}
-use Rattle.scope.specs.Room.{machine}
 use Rattle.scope.specs.Rounds.{Together}
 use Rattle.sides.specs.Side.{bothLimit}
 use Rattle.agree.specs.Parts.{First}

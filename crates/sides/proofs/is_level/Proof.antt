@@ -5,6 +5,7 @@ use mathlib.Core.Logic.{⊎-elim}
 use native.Mathlib.Omega.{arith}
 use borrow.Author.Needs.{needs}
 use lib.ListN.{getD}
+use Rattle.scope.specs.Limits.{classesAt}
 use Rattle.slices.specs.Parts.{Decides}
 use Rattle.sides.specs.Kinds.{stretch, Level}
 use Rattle.sides.proofs.ByKind.{level-none, level-more, level-not}
@@ -32,7 +33,7 @@ loop-again c =
     let x = c .before .before .before .before .before .args .x in
     let y = c .before .before .before .before .loop .y in
     let l = c .before .before .before .before .loop .inv in
-    let at : getD m (2 - 1 + y) 0 ≡ getD m (2 + (y - 1)) 0 = ap (λ (i : ℕ). getD m i 0) (omega (arith, l .0, c .before .before .before .before .before .pre .1)) in (
+    let at : getD m (classesAt - 1 + y) 0 ≡ getD m (classesAt + (y - 1)) 0 = ap (λ (i : ℕ). getD m i 0) (omega (arith, l .0, c .before .before .before .before .before .pre .1)) in (
       search needs,
       search needs,
       ⊎-elim (λ w. rw (w .1) (level-not m x y (l .0) (l .2) (λ e. w .0 .taken (e ∙ sym at)))) (λ w. rw (w .1) (level-more m x y (l .0) (l .2) (w .0 .left ∙ at))) (c .if1 .came),

@@ -2,6 +2,7 @@
 use Prim.Native.Nat.{_+_}
 use native.Mathlib.Omega.{arith}
 use borrow.Author.Needs.{needs}
+use Rattle.scope.specs.Limits.{classesAt}
 use Rattle.sides.proofs.ByKind.{class-small}
 use Rattle.sides.proofs.pair.Statement.{statement}
 use Rattle.sides.proofs.pair.Tie as tie
@@ -13,7 +14,7 @@ shared-slice-read-result : tie.Need-shared-slice-read-result
 shared-slice-read-result c = search needs
 
 cast-result : tie.Need-cast-result
-cast-result c = omega (arith, c .shared-slice-known .given (2 + c .before .args .x))
+cast-result c = omega (arith, c .shared-slice-known .given (classesAt + c .before .args .x))
 
 mul-result : tie.Need-mul-result
 mul-result c = omega (arith, class-small _ (c .before .args .x) (c .before .pre .0 .0) (c .before .pre .1))
@@ -25,7 +26,7 @@ shared-slice-read-result-2 : tie.Need-shared-slice-read-result-2
 shared-slice-read-result-2 c = search needs
 
 cast-result-2 : tie.Need-cast-result-2
-cast-result-2 c = omega (arith, c .shared-slice-known2 .given (2 + c .before .before .args .x))
+cast-result-2 c = omega (arith, c .shared-slice-known2 .given (classesAt + c .before .before .args .x))
 
 add-result-3 : tie.Need-add-result-3
 add-result-3 c = let d = c .before .before in omega (arith, class-small _ (d .args .x) (d .pre .0 .0) (d .pre .1), class-small _ (d .args .x) (d .pre .0 .1) (d .pre .1))
