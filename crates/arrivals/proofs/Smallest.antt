@@ -1,7 +1,7 @@
 -- When the row of every number is read, the numbered parts are a closed machine. It does what the room does; all its states are reached, each from a row before its own;
 -- no two are alike; and they are numbered on first arrival over all bytes, since so they are over the kinds.
 --   smallest: the machine of the numbered parts
-use Prim.Native.Nat.{ℕ, zero, suc, _+_, _*_, _/_, _%_, _≤_, _<_}
+use Prim.Native.Nat.{ℕ, zero, suc, _+_, _*_, _/_, _%_, _<_}
 use mathlib.Core.Path.{_≡_, refl, sym, ap, _∙_}
 use mathlib.Core.List.{List, [], _∷_, _++_}
 use native.Mathlib.Nat.{mul-le-mul-right, mod-lt, div-lt-iff-lt-mul, div-add-mod'}

@@ -6,7 +6,7 @@
 --   numbers-none, numbers-old, numbers-new: the numbers of no state; of one more whose part has none, or has one
 use Prim.Native.Nat.{ℕ, _+_, _*_, _/_, _≤_, _<_}
 use mathlib.Core.Path.{_≡_, refl, sym, ap, _∙_}
-use mathlib.Core.Logic.{_⊎_, inl, inr, ⊎-elim}
+use mathlib.Core.Logic.{inl, inr, ⊎-elim}
 use mathlib.Core.List.{List}
 use native.Mathlib.Nat.{mul-le-mul-right, add-mul, div-lt-iff-lt-mul}
 use native.Mathlib.Omega.{arith}
@@ -20,7 +20,7 @@ use Rattle.slices.proofs.Numbered.{numbered-none, numbered-old, numbered-new, n
 use Rattle.parts.specs.Refined.{PartsOf}
 use Rattle.room.proofs.Laws.{cell-known}
 use Rattle.plan.proofs.Rows.{flat}
-use Rattle.arrivals.specs.Swept.{leads, placed, Ready, Back, Forth, Above, Swept, Numbers}
+use Rattle.arrivals.specs.Swept.{leads, placed, Ready, Back, Forth, Earlier, Swept, Numbers}
 
 -- ---- how many numbers there are
 
@@ -88,7 +88,7 @@ module _ {a part column order number : List ℕ} {kinds count q i : ℕ} (s : So
     ];
     numbered = numbered-new (w .numbered) (placed a part column order′ kinds) (λ x. getD number′ (placed a part column order′ kinds x) 0) (λ v. getD order′ v 0)
         (λ x l. as-read x (row x l)) numbers kept (rw this new) (at ∙ sym this) refl (λ v l z. other s w t e v l (z ∙ this));
-    above = below-more (λ (v : ℕ). 0 < v → Above a part column order′ kinds v) count above
+    above = below-more (λ (v : ℕ). 0 < v → Earlier a part column order′ kinds v) count above
         (λ g. record { place = q * kinds + i; row = omega (arith, mul-le-mul-right kinds h); here = this ∙ sym at });
   }
     where
@@ -146,7 +146,7 @@ module _ {a part column order number : List ℕ} {kinds count q i : ℕ} (s : So
         own = rw (kept v l) (numbered-still (getD order v 0) (omega (arith, b .own)) ∙ b .own);
       }
 
-      above : (v : ℕ) → v < count → 0 < v → Above a part column order′ kinds v
+      above : (v : ℕ) → v < count → 0 < v → Earlier a part column order′ kinds v
       above v l g = let b = w .above v l g in
           let r : b .place / kinds < v = div-lt-iff-lt-mul some .1 (b .row) in
           record { place = b .place; row = b .row; here = as-read (b .place) (omega arith) ∙ b .here ∙ sym (kept v l) }

@@ -3,7 +3,7 @@
 --   Ready a part column kinds: what is numbered: the parts of a sound room, over the columns
 --   leads a part order q u: the part to which the state with the number q is led by the column u
 --   placed a part column order kinds x: the part to which the place x leads
---   Back: a number has a part; Forth: a part has a number; Above: a place in a row before v leads to the number v
+--   Back: a number has a part; Forth: a part has a number; Earlier: a place in a row before v leads to the number v
 --   Swept a part column order number kinds count e: the first e places are read, and count parts have a number
 --   Numbers part number into n count: into has the number of the part of each of the first n states, where that is below count
 --   Arrived a part column order into kinds n: all is read
@@ -39,7 +39,7 @@ pub record Forth (order number : List ℕ) (count t : ℕ) : Type 0 where
   pub below : getD number t 0 < count
   pub back : getD order (getD number t 0) 0 ≡ t
 
-pub record Above (a part column order : List ℕ) (kinds v : ℕ) : Type 0 where
+pub record Earlier (a part column order : List ℕ) (kinds v : ℕ) : Type 0 where
   pub place : ℕ
   pub row : place < v * kinds
   pub here : placed a part column order kinds place ≡ getD order v 0
@@ -52,7 +52,7 @@ pub record Swept (a part column order number : List ℕ) (kinds count e : ℕ) :
   pub back : (v : ℕ) → v < count → Back a part order number v
   pub forth : (t : ℕ) → t < statesOf a → (getD number t 0 ≡ stateLimit) ⊎ Forth order number count t
   pub numbered : Numbered (λ t u. t ≡ u) (placed a part column order kinds) (λ x. getD number (placed a part column order kinds x) 0) (λ v. getD order v 0) 1 count e
-  pub above : (v : ℕ) → v < count → 0 < v → Above a part column order kinds v
+  pub above : (v : ℕ) → v < count → 0 < v → Earlier a part column order kinds v
 
 pub record Numbers (part number into : List ℕ) (n count : ℕ) : Type 0 where
   pub size : length into ≡ stateLimit

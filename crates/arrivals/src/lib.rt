@@ -37,7 +37,7 @@ fn sweep(
     count
 }
 
-// The number of the part of each of the first n states, where it has one: the count numbers are those below it.
+// The number of the part of each of the first n states, 0 where it has none. Numbers are below `count`: the mark of a part that has none is never taken for one.
 fn numbers(
     part: &[u16; parts::STATES],
     number: &[u16; Machine::STATES],

@@ -3,13 +3,13 @@
 --   numbered-finer: the pieces, numbered as their things are, are numbered on first arrival
 --   finer-rows: so it is with the rows of a table, where each row is read in pieces
 use Prim.Native.Nat.{ℕ, _+_, _*_, _/_, _%_, _<_}
-use mathlib.Core.Path.{_≡_, sym, ap, _∙_}
+use mathlib.Core.Path.{_≡_, ap, _∙_}
 use mathlib.Core.Logic.{inl, inr}
 use native.Mathlib.Nat.{mul-le-mul-right, mod-lt, div-add-mod', div-lt-iff-lt-mul}
 use native.Mathlib.Omega.{arith}
 use Rattle.scope.specs.Limits.{byteValues}
 use Rattle.scope.proofs.Tests.{split}
-use Rattle.slices.specs.Numbered.{Came, Numbered}
+use Rattle.slices.specs.Numbered.{Numbered}
 
 pub record Finer (whole first : ℕ → ℕ) (e d : ℕ) : Type 0 where
   pub inside : (y : ℕ) → y < d → whole y < e

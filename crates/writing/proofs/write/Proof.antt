@@ -1,6 +1,5 @@
 -- The parts of the image are stored one after the other; no part changes another.
 use native.Mathlib.Omega.{arith}
-use borrow.Author.Needs.{needs}
 use Rattle.writing.proofs.Image.{states-few, table-few, image-rows, image-parts}
 use Rattle.writing.proofs.write.Statement.{statement}
 use Rattle.writing.proofs.write.Tie as tie
