@@ -1,5 +1,5 @@
-// From the sets of positions of an expression to a sound room image whose states are the reached sets. `runs` finds the runs of byte values, `classes` gives their classes and masks,
-// `reach` finds the reached sets row by row, and `image` writes the room around them.
+// From the sets of positions of an expression to a sound room image whose states are the reached sets: `runs` finds the runs of byte values, `classes` gives their
+// classes and masks, `reach` finds the reached sets row by row, and `image` writes the room around them.
 ghost use mathlib.Core.Path.{_≡_};
 ghost use Prim.Native.Nat.{_≤_};
 ghost use lib.Bits.{bitOr};
