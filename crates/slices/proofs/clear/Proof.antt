@@ -17,7 +17,10 @@ same-length-2 : tie.Need-same-length-2
 same-length-2 c = search needs
 
 returns : tie.Need-returns
-returns c = search stored-written
+returns c = record {
+  bytes-zero = search stored-written;
+  words-zero = search stored-written;
+}
 
 pub clear-spec : {M : Type 1} → statement M
 clear-spec = tie.close (tie.spec fill-requires fill-words-requires same-length same-length-2 returns)
