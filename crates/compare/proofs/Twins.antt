@@ -10,23 +10,27 @@ use native.Mathlib.Omega.{arith}
 use lib.Dec.{eqb}
 use Rattle.scope.specs.Limits.{classesAt, marksAt, cellsAt}
 use Rattle.scope.specs.Machine.{Machine, Same, Closed}
-use Rattle.scope.specs.Room.{classesOf, classOf, nextOf, machine, Sound}
+use Rattle.scope.specs.Room.{statesOf, classesOf, classOf, nextOf, machine, Sound}
 use Rattle.scope.specs.Rounds.{aside, Rounds, Enough}
 use Rattle.scope.proofs.Tests.{split}
 use Rattle.scope.proofs.Room.{cell-used}
 use Rattle.scope.proofs.Agree.{Agree, agree-closed, agree-same}
 use Rattle.scope.proofs.Rounds.{rounds-enough}
 use Rattle.scope.proofs.Aside.{aside-closed, left-run, right-run}
+use Rattle.room.proofs.Laws.{head-same}
 use Rattle.compare.specs.Twins.{Twins}
 
 -- the same bytes: the same header, classes, marks and used cells
 pub twins-agree : (a b : List ℕ) → Sound a → Twins a b → Agree (machine a) (machine b)
 unfolding nextOf
 twins-agree a b s e = record {
-  states = e 0 (omega arith);
-  next = λ q x h k. rw (← e (classesAt + x) (omega arith), ← e 1 (omega arith)) (e (cellsAt + (q * classesOf a + classOf a x)) (omega (arith, cell-used a s q x h k)));
+  states = head .0;
+  next = λ q x h k. rw (← e (classesAt + x) (omega arith), ← head .1) (e (cellsAt + (q * classesOf a + classOf a x)) (omega (arith, cell-used a s q x h k)));
   marks = λ q h. ap (λ (x : ℕ). eqb x 1) (e (marksAt + q) (omega (arith, s .few-states)));
 }
+  where
+    head : (statesOf a ≡ statesOf b) × (classesOf a ≡ classesOf b)
+    head = head-same a b (λ i h. e i (omega arith))
 
 -- where each state of M accepts the strings of some state of N, what is enough for N is enough for M
 enough : (M N : Machine) → ((q : ℕ) → q < M .states → (p : ℕ) × (p < N .states) × Same M q N p) → (r : ℕ) → Enough N r → Enough M r

@@ -11,7 +11,7 @@ use Rattle.scope.specs.Limits.{classesAt, marksAt, roomBytes}
 use Rattle.scope.specs.Buffers.{Written}
 use Rattle.slices.specs.Parts.{Stored}
 use Rattle.room.specs.Head.{headByte}
-use Rattle.room.proofs.Laws.{head-written}
+use Rattle.room.proofs.Laws.{head-is}
 use Rattle.determinise.specs.Image.{markBy, Begun, Stated}
 
 -- the classes, over zeros
@@ -29,8 +29,8 @@ pub stated : (o a b : List ℕ) (sets : ℕ → ℕ) (n k finals : ℕ) → Writ
     → Stored a b marksAt (marksAt + n) (λ i. markBy finals (sets (i - marksAt))) → Stated o b sets n k finals
 stated o a b sets n k finals w v = record {
   size = v .size ∙ w .size;
-  states = v .outside 0 (inl (omega arith)) ∙ head-written w .0;
-  count = v .outside 1 (inl (omega arith)) ∙ head-written w .1;
+  states = head-is b n k (λ i h. v .outside i (inl (omega arith)) ∙ w .inside i h) .0;
+  count = head-is b n k (λ i h. v .outside i (inl (omega arith)) ∙ w .inside i h) .1;
   marks = λ q h. (let e : marksAt + q - marksAt ≡ q = omega arith in
       v .inside (marksAt + q) (omega arith) (omega arith) ∙ ap (λ (j : ℕ). markBy finals (sets j)) e);
   others = λ i h x. v .outside i x ∙ w .outside i h;

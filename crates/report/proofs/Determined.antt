@@ -26,6 +26,7 @@ use Rattle.scope.proofs.Compare.{rounds-one, separation-one, equal-separates, u
 use Rattle.scope.proofs.Compile.{lent-one, one-room}
 use Rattle.scope.proofs.Moved.{moved-agree, sound-moved}
 use Rattle.scope.proofs.Run.{sound-closed}
+use Rattle.room.proofs.Laws.{head-same}
 use Rattle.compare.proofs.Results.{compares-fits}
 use Rattle.put_lines.specs.Printing.{counted, told}
 use Rattle.put_lines.proofs.Lining.{told-done, told-refused, printed-left, printed-right, printed-both}
@@ -66,8 +67,9 @@ compiling-one {text} {room} {other} {a} {b} (compiling {before} {bytes} {bytes�
 
     line : Dec (a .number ≡ DONE) → told a ≡ told b
     line (yes e) =
-        let u : a .states ≡ b .states = s ∙ same-bytes e 0 (omega arith) ∙ sym t in
-        let v : a .classes ≡ b .classes = k ∙ same-bytes e 1 (omega arith) ∙ sym j in
+        let h = head-same room other (λ i l. same-bytes e i (omega arith)) in
+        let u : a .states ≡ b .states = s ∙ h .0 ∙ sym t in
+        let v : a .classes ≡ b .classes = k ∙ h .1 ∙ sym j in
         told-done a e ∙ ap₂ (λ (p q : ℕ). counted (ascii " states ") p (ascii " classes ") q) u v ∙ sym (told-done b (sym n ∙ e))
     line (no d) =
         told-refused a d ∙ ap₂ (λ (p q : ℕ). counted (ascii " refused ") p (ascii " at ") q) n (one .1) ∙ sym (told-refused b (λ e. d (n ∙ e)))

@@ -1,5 +1,5 @@
 -- The head is the two bytes at the start. A room is sound if its head and its five parts are; then every state has its cells.
---   head-set, head-written: the two bytes stored are the head; the head that was written is read
+--   head-set: the two bytes stored are the head; head-is, head-same: a room that begins with its bytes has it; the same bytes, the same head
 --   Judged m n k: the first four parts are below their limits
 --   sound-last, sound-not: what the last part decides, where the others are, and where they are not
 --   cell-known: the cell for a state and a class is in the room, and holds a state
@@ -24,9 +24,13 @@ pub head-set : (m : List ℕ) (n k : ℕ) → classesAt ≤ length m → Written
 head-set m n k l =
     stored-written (stored-more {f = headByte n k} l (omega arith) refl (stored-more {f = headByte n k} (omega arith) (omega arith) refl (stored-none m 0 (headByte n k))))
 
--- the head that was written is read
-pub head-written : {m m′ : List ℕ} {n k : ℕ} → Written classesAt (headByte n k) m m′ → (statesOf m′ ≡ n) × (classesOf m′ ≡ k)
-head-written w = (w .inside 0 (omega arith), w .inside 1 (omega arith))
+-- the head is read, where a room begins with its bytes
+pub head-is : (m : List ℕ) (n k : ℕ) → ((i : ℕ) → i < classesAt → getD m i 0 ≡ headByte n k i) → (statesOf m ≡ n) × (classesOf m ≡ k)
+head-is m n k e = (e 0 (omega arith), e 1 (omega arith))
+
+-- rooms that begin with the same bytes have the same head
+pub head-same : (m m′ : List ℕ) → ((i : ℕ) → i < classesAt → getD m i 0 ≡ getD m′ i 0) → (statesOf m ≡ statesOf m′) × (classesOf m ≡ classesOf m′)
+head-same m m′ e = (e 0 (omega arith), e 1 (omega arith))
 
 -- n, k: the numbers of states and classes that were read
 abbrev pub Judged : List ℕ → ℕ → ℕ → Type 0

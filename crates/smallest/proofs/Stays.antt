@@ -22,6 +22,7 @@ use Rattle.scope.proofs.Moved.{moved-agree, canonical-moved}
 use Rattle.scope.proofs.Unique.{unique}
 use Rattle.slices.specs.Parts.{Decides, Alike}
 use Rattle.slices.proofs.Laws.{part-all}
+use Rattle.room.proofs.Laws.{head-same}
 use Rattle.plan.specs.declared.Plan.{Plan}
 use Rattle.plan.specs.Planned.{Planned}
 use Rattle.writing.specs.Image.{imageByte}
@@ -84,14 +85,17 @@ module _ {a : List ℕ} {p : Plan} (d : Planned a p) where
 
   pub canonical-stays : Canonical a → Stays a p
   canonical-stays c = record {
-    states = sym (is-states d m long byte) ∙ sym (same 0 (omega arith));
-    classes = sym (is-classes d m long byte) ∙ sym (same 1 (omega arith));
+    states = sym (is-states d m long byte) ∙ sym (head .0);
+    classes = sym (is-classes d m long byte) ∙ sym (head .1);
     order = order;
     class = λ x h. sym (is-class d m long byte x h) ∙ sym (same (classesAt + x) (omega arith));
   }
     where
       same : SameBytes a m
       same = unique a m c (image-canonical d m long byte) (image-equal d m long byte)
+
+      head : (statesOf a ≡ statesOf m) × (classesOf a ≡ classesOf m)
+      head = head-same a m (λ i h. same i (omega arith))
 
       order : (q : ℕ) → q < p .states → getD (p .order) q 0 ≡ q
       order q h =

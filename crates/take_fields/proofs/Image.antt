@@ -23,6 +23,7 @@ use Rattle.scope.specs.Laid.{from}
 use Rattle.scope.proofs.Fields.{value-ext}
 use Rattle.scope.proofs.Laid.{form-laid, framed, laid-one, bits-one}
 use Rattle.scope.proofs.Moved.{sound-moved, canonical-moved}
+use Rattle.room.proofs.Laws.{head-same}
 use Rattle.fields.specs.Fields.{roomBit}
 use Rattle.take_fields.specs.Image.{formBit, Image, Imageless, Formless, Unpacks}
 use Rattle.fields.proofs.Fields.{form-size}
@@ -87,8 +88,7 @@ same-part m n start k a b h e =
 same-bits : (m n : List ℕ) → Sound m → roomBytes ≤ length n → SameBytes m n → formBits m ≡ formBits n
 unfolding formBits
 same-bits m n s l e =
-    let states : statesOf m ≡ statesOf n = e 0 (omega arith) in
-    let classes : classesOf m ≡ classesOf n = e 1 (omega arith) in
+    let (states, classes) = head-same m n (λ i h. e i (omega arith)) in
     rw (
       same-part m n classesAt byteValues (s .long) l (omega arith) e,
       same-part m n marksAt (statesOf m) (s .long) l (omega (arith, s .few-states)) e,

@@ -23,7 +23,7 @@ use Rattle.scope.proofs.Tests.{split}
 use Rattle.scope.specs.Laid.{from, Holds, endBit, classesBit, marksBit}
 use Rattle.slices.specs.Parts.{Stored}
 use Rattle.room.specs.Head.{headByte}
-use Rattle.room.proofs.Laws.{head-written}
+use Rattle.room.proofs.Laws.{head-is, head-same}
 use Rattle.fields.specs.Fields.{bitsOf}
 use Rattle.take_fields.specs.Image.{formBit, Image, Imageless, Named, Shaped, Judged, Took, Blank}
 use Rattle.fields.proofs.Fields.{zeros}
@@ -94,10 +94,10 @@ took-more {b} {p} {w} {start} {i} {old} {new} x l h t = record {
 
 -- zeros, and then the head
 pub blanked : {n k : ℕ} {old zero new : List ℕ} → Stored old zero 0 roomBytes (λ i. 0) → Written classesAt (headByte n k) zero new → Blank n k old new
-blanked s w = record {
+blanked {n} {k} {old} {zero} {new} s w = record {
   tail = record { size = w .size ∙ s .size; outside = λ i h. w .outside i (omega arith) ∙ s .outside i (inr h) };
-  states = head-written w .0;
-  classes = head-written w .1;
+  states = head-is new n k (w .inside) .0;
+  classes = head-is new n k (w .inside) .1;
   zero = λ i h g. w .outside i g ∙ s .inside i h (omega arith);
 }
 
@@ -117,11 +117,15 @@ module _ {f : List ℕ} {n k c : ℕ} {old a x y new : List ℕ} (g : Shaped n k
     outside = λ i h. v .outside i (inr (omega (arith, fit))) ∙ u .outside i (inr (omega (arith, few))) ∙ t .outside i (inr (omega arith)) ∙ z .tail .outside i h;
   }
 
+  -- no part reaches back to the head
+  kept : (statesOf new ≡ statesOf a) × (classesOf new ≡ classesOf a)
+  kept = head-same new a (λ i h. v .outside i (inl (omega arith)) ∙ u .outside i (inl (omega arith)) ∙ t .outside i (inl (omega arith)))
+
   states : statesOf new ≡ n
-  states = v .outside 0 (inl (omega arith)) ∙ u .outside 0 (inl (omega arith)) ∙ t .outside 0 (inl (omega arith)) ∙ z .states
+  states = kept .0 ∙ z .states
 
   classes : classesOf new ≡ k
-  classes = v .outside 1 (inl (omega arith)) ∙ u .outside 1 (inl (omega arith)) ∙ t .outside 1 (inl (omega arith)) ∙ z .classes
+  classes = kept .1 ∙ z .classes
 
   -- each part stays where it was read, and what no part holds stays 0
   pub image-made : Image f new × TailKept roomBytes old new

@@ -21,6 +21,7 @@ use Rattle.scope.proofs.Arrival.{arrival-ext}
 use Rattle.slices.specs.Parts.{Stored}
 use Rattle.slices.proofs.Laws.{stored-none, stored-written, written-stored, stored-then}
 use Rattle.room.specs.Head.{headByte}
+use Rattle.room.proofs.Laws.{head-is}
 use Rattle.plan.specs.declared.Plan.{Plan}
 use Rattle.plan.specs.Smallest.{Rows, smaller}
 use Rattle.plan.specs.Planned.{Planned}
@@ -112,11 +113,14 @@ module _ {a : List ℕ} {p : Plan} (d : Planned a p) where
       u (λ i k g. sym (at-gap a p i g k))) v (λ i k g. sym (at-cell a p i states-few g k))) w (λ i k g. sym (at-rest a p i states-few g)))
 
   module _ (m : List ℕ) (long : roomBytes ≤ length m) (b : (i : ℕ) → i < roomBytes → getD m i 0 ≡ imageByte a p i) where
+    is-head : (statesOf m ≡ p .states) × (classesOf m ≡ p .classes)
+    is-head = head-is m (p .states) (p .classes) (λ i h. b i (omega arith) ∙ at-head a p i h)
+
     pub is-states : statesOf m ≡ p .states
-    is-states = b 0 (omega arith) ∙ at-head a p 0 (omega arith)
+    is-states = is-head .0
 
     pub is-classes : classesOf m ≡ p .classes
-    is-classes = b 1 (omega arith) ∙ at-head a p 1 (omega arith)
+    is-classes = is-head .1
 
     pub is-class : (x : ℕ) → x < byteValues → classOf m x ≡ getD (p .class) x 0
     is-class x h = b (classesAt + x) (omega arith) ∙ at-class a p (classesAt + x) (omega arith) (omega arith) ∙ ap (λ (j : ℕ). getD (p .class) j 0) (omega arith)
