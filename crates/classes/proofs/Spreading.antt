@@ -1,59 +1,75 @@
 -- From runs to bytes. All bytes of a run are alike, so a byte has the class of its run, and the runs before it use as many classes as the bytes before it.
---   Spreading: the loop over the runs: the bytes of those below i have their classes
+--   run-first, run-next: where a run begins
+--   Spreading: the loop over the runs, from the last down: the bytes of those from i on have their classes, and the classes below i are kept
 --   spreading-none, spreading-fits, spreading-more, spreading-all: its turns
 --   group-spread: the classes of the bytes by those of their runs
 --   group-runs: the first run of each class is that of its smallest byte
-use Prim.Native.Nat.{ℕ, _+_, _≤_, _<_}
+use Prim.Native.Nat.{ℕ, zero, suc, _+_, _-_, _≤_, _<_}
 use mathlib.Core.Path.{_≡_, refl, sym, ap, _∙_}
 use mathlib.Core.List.{List}
 use mathlib.Core.Logic.{inl, inr}
 use native.Mathlib.Omega.{arith}
-use borrow.Author.Count.{below-more}
-use lib.ListN.{length, getD, replicate, length-replicate}
+use lib.ListN.{length, getD}
 use Rattle.scope.specs.Limits.{byteValues}
 use Rattle.scope.specs.Canonical.{met, Arrival}
 use Rattle.scope.proofs.Arrival.{met-above}
 use Rattle.scope.proofs.Tests.{split}
 use Rattle.slices.specs.Parts.{Stored}
-use Rattle.classes.specs.Group.{By, Grouped, Spread}
+use Rattle.classes.specs.Group.{By, Grouped, RunFrom, Spread}
 use Rattle.runs.specs.Runs.{Listed, In, RunsOf, Like}
 use Rattle.classes.proofs.Count.{met-used, met-least}
 use Rattle.classes.proofs.Classes.{class-below}
 
-pub record Spreading (last class map : List ℕ) (from i : ℕ) : Type 0 where
-  pub size : length map ≡ byteValues
-  pub before : (j : ℕ) → j < i → getD last j 0 < from
-  pub least : (b : ℕ) → ((j : ℕ) → j < i → getD last j 0 < b) → from ≤ b
-  pub each : (j : ℕ) → j < i → (b : ℕ) → In last j b → getD map b 0 ≡ getD class j 0
+-- as many bytes as its number are before the last of a run
+run-late : {last : List ℕ} {e : ℕ} → Listed last e → (i : ℕ) → i < e → i ≤ getD last i 0
+run-late l zero h = omega arith
+run-late l (suc i) h = omega (arith, run-late l i (omega arith), l .rising (suc i) h i (omega arith))
 
--- no run
-pub spreading-none : (last class : List ℕ) → Spreading last class (replicate byteValues 0) 0 0
-spreading-none last class = record {
-  size = length-replicate {A = ℕ} byteValues 0;
-  before = λ j h. absurd (omega arith);
-  least = λ b h. omega arith;
-  each = λ j h. absurd (omega arith);
+-- the first run, and one after another
+pub run-first : {last : List ℕ} → RunFrom last 0 0
+run-first = record { late = omega arith; before = λ j h. absurd (omega arith); least = λ b h. omega arith }
+
+pub run-next : {last : List ℕ} {e : ℕ} → Listed last e → (i : ℕ) → 0 < i → i < e → RunFrom last i (getD last (i - 1) 0 + 1)
+run-next {last} l i z h = record {
+  late = omega (arith, run-late l (i - 1) (omega arith));
+  before = λ j k. elim (split j (i - 1)) [
+    | inl u ↦ omega (arith, l .rising (i - 1) (omega arith) j u)
+    | inr u ↦ (let q : j ≡ i - 1 = omega arith in omega (arith, ap (λ y. getD last y 0) q))
+  ];
+  least = λ b k. omega (arith, k (i - 1) (omega arith));
 }
 
-module _ {last class map : List ℕ} {from i e : ℕ} (l : Listed last e) (h : i < e) where
+-- class: before, map: now
+pub record Spreading (last class map : List ℕ) (e i : ℕ) : Type 0 where
+  pub size : length map ≡ byteValues
+  pub below : (j : ℕ) → j < i → getD map j 0 ≡ getD class j 0
+  pub each : (j : ℕ) → j < e → i ≤ j → (b : ℕ) → In last j b → getD map b 0 ≡ getD class j 0
+
+-- no run
+pub spreading-none : {class : List ℕ} (last : List ℕ) (e : ℕ) → length class ≡ byteValues → Spreading last class class e e
+spreading-none last e h = record { size = h; below = λ j k. refl; each = λ j k l. absurd (omega arith) }
+
+-- i: the number of the run that comes next
+module _ {last class map : List ℕ} {from i e n : ℕ} (l : Listed last e) (h : i < e) (r : RunFrom last i from) (q : n ≡ i + 1) (x : Spreading last class map e n) where
   -- a run is within the bytes
-  pub spreading-fits : Spreading last class map from i → (from ≤ getD last i 0 + 1) × (getD last i 0 + 1 ≤ length map)
-  spreading-fits x = (x .least (getD last i 0 + 1) (λ j k. omega (arith, l .rising i h j k)), omega (arith, l .byte i h, x .size))
+  pub spreading-fits : (from ≤ getD last i 0 + 1) × (getD last i 0 + 1 ≤ length map)
+  spreading-fits = (r .least (getD last i 0 + 1) (λ j k. omega (arith, l .rising i h j k)), omega (arith, l .byte i h, x .size))
 
   -- one run more
-  pub spreading-more : {map′ : List ℕ} → Stored map map′ from (getD last i 0 + 1) (λ b. getD class i 0) → Spreading last class map from i
-      → Spreading last class map′ (getD last i 0 + 1) (i + 1)
-  spreading-more {map′} s x = record {
+  pub spreading-more : {map′ : List ℕ} → Stored map map′ from (getD last i 0 + 1) (λ b. getD map i 0) → Spreading last class map′ e i
+  spreading-more s = record {
     size = s .size ∙ x .size;
-    before = below-more (λ (j : ℕ). getD last j 0 < getD last i 0 + 1) i (λ j k. omega (arith, l .rising i h j k)) (omega arith);
-    least = λ b k. omega (arith, k i (omega arith));
-    each = below-more (λ (j : ℕ). (b : ℕ) → In last j b → getD map′ b 0 ≡ getD class j 0) i
-        (λ j k b at. s .outside b (inl (omega (arith, at .upto, x .before j k))) ∙ x .each j k b at) (λ b at. s .inside b (omega (arith, at .upto)) (x .least b (at .after)));
+    below = λ j k. s .outside j (inl (omega (arith, r .late))) ∙ x .below j (omega arith);
+    each = λ j k u b at. elim (split i j) [
+      | inl v ↦ s .outside b (inr (omega (arith, at .after i v))) ∙ x .each j k (omega arith) b at
+      | inr v ↦ (let p : j ≡ i = omega arith in
+          s .inside b (omega (arith, at .upto, ap (λ y. getD last y 0) p)) (r .least b (λ y z. at .after y (omega arith))) ∙ x .below i (omega arith) ∙ ap (λ y. getD class y 0) (sym p))
+    ];
   }
 
 -- all runs
-pub spreading-all : {last class map : List ℕ} {from i e : ℕ} → e ≤ i → Spreading last class map from i → Spread last e class map
-spreading-all h x = record { size = x .size; each = λ j k. x .each j (omega arith) }
+pub spreading-all : {last class map : List ℕ} {e i : ℕ} → i ≤ 0 → Spreading last class map e i → Spread last e class map
+spreading-all h x = record { size = x .size; each = λ j k. x .each j k (omega arith) }
 
 module _ (m : List ℕ) (n : ℕ) {last : List ℕ} {e : ℕ} (r : RunsOf (Like m n) last e) where
   -- class: of the runs, map: of the bytes

@@ -5,6 +5,7 @@
 --   Grouped R map k e: the classes of the things below e, at most 64
 --   GroupAnswer R map e r: what grouping them by R answers
 --   Below map e: their classes are below 64
+--   RunFrom last i from: the run number i begins at the byte `from`
 --   Spread last count class map: each byte has in `map` what its run has in `class`
 use Prim.Native.Nat.{ℕ, _+_, _*_, _<_, _≤_}
 use mathlib.Core.Path.{_≡_}
@@ -41,6 +42,11 @@ GroupAnswer R map e Many = Over classLimit (λ (b : ℕ). b < e) R
 
 abbrev pub Below : List ℕ → ℕ → Type 0
 Below map e = (b : ℕ) → b < e → getD map b 0 < classLimit
+
+pub record RunFrom (last : List ℕ) (i from : ℕ) : Type 0 where
+  pub late : i ≤ from
+  pub before : (j : ℕ) → j < i → getD last j 0 < from
+  pub least : (b : ℕ) → ((j : ℕ) → j < i → getD last j 0 < b) → from ≤ b
 
 pub record Spread (last : List ℕ) (count : ℕ) (class map : List ℕ) : Type 0 where
   pub size : length map ≡ byteValues

@@ -4,7 +4,7 @@ ghost use Prim.Native.Nat.{_*_, _<_, _≤_, _+_};
 ghost use lib.ListN.{length};
 ghost use Rattle.scope.specs.Limits.{byteValues, positionLimit};
 ghost use Rattle.sets.specs.Layout.{byteSet};
-ghost use Rattle.classes.specs.Group.{Key, Below, GroupAnswer, Spread};
+ghost use Rattle.classes.specs.Group.{Key, Below, GroupAnswer, RunFrom, Spread};
 ghost use Rattle.runs.specs.Runs.{Listed, RunsOf, Like};
 use crate::Counted;
 use scope::Machine;
@@ -49,25 +49,30 @@ fn split(
     Counted::Few(k)
 }
 
-// For each byte what its run has in `class`.
-fn spread(
-    last: &[u8; Machine::BYTES],
-    runs: usize,
-    class: [u8; Machine::BYTES],
-) -> [u8; Machine::BYTES]
-    requires { ⌜ Listed (now last) runs ⌝ }
-    ensures { λ r. ⌜ Spread (now (last .entry)) runs class r ⌝ }
+// The first byte of the run number i.
+fn first(last: &[u8; Machine::BYTES], runs: usize, i: usize) -> usize
+    requires { ⌜ Listed (now last) runs × (i < runs) ⌝ }
+    ensures { λ r. ⌜ RunFrom (now (last .entry)) i r ⌝ }
 {
-    let mut map = [0u8; Machine::BYTES];
-    let mut from: usize = 0;
-    let mut i: usize = 0;
-    while i < runs {
-        let to = last[i] as usize + 1;
-        slices::fill(&mut map, from, to, class[i]);
-        from = to;
-        i += 1;
+    if i == 0 {
+        return 0;
     }
-    map
+    last[i - 1] as usize + 1
+}
+
+// Gives each byte what its run has in `class`, from the last run down: the bytes of a run are at or after its number, so no class is overwritten before it is spread.
+fn spread(last: &[u8; Machine::BYTES], runs: usize, class: &mut [u8; Machine::BYTES])
+    requires { ⌜ Listed (now last) runs × (length (now class) ≡ byteValues) ⌝ }
+    ensures { λ _. ⌜ Spread (now (last .entry)) runs (now (class .entry)) (now (class .exit)) ⌝ }
+{
+    let mut i = runs;
+    while i > 0 {
+        i -= 1;
+        let from = first(last, runs, i);
+        let to = last[i] as usize + 1;
+        let value = class[i];
+        slices::fill(class, from, to, value);
+    }
 }
 
 // The classes by all positions: the runs, all of one class, are split by one position after the other, and their classes spread over the bytes.
@@ -94,9 +99,9 @@ pub fn group(bytes: &[u8], count: usize, last: &[u8; Machine::BYTES], runs: usiz
         }
         p += 1;
     }
-    let map = spread(last, runs, class);
+    spread(last, runs, &mut class);
     Groups {
-        map: map,
+        map: class,
         answer: Counted::Few(k),
     }
 }

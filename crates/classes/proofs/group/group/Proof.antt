@@ -29,10 +29,10 @@ loop-again : tie.Need-loop-again Inv-loop μ-loop
 loop-again c = let s = c .before .before .before in let a = s .before .before .before .before .before .args in (search needs, group-next (a .bytes .now) (a .last .now) (s .before .before .before .loop .inv .1) _ (s .split .ensures) _ (c .before .counted .given .1))
 
 spread-requires : tie.Need-spread-requires Inv-loop μ-loop
-spread-requires c κs = c .before .before .before .pre .1 .listed
+spread-requires c κs = (c .before .before .before .before .pre .1 .listed, c .before .before .loop .inv .1 .size)
 
 returns-2 : tie.Need-returns-2 Inv-loop μ-loop
-returns-2 c = let e : c .before .before .loop .p ≡ c .before .before .before .before .args .count = omega arith in group-spread (c .before .before .before .before .args .bytes .now) _ (c .before .before .before .before .pre .1) (rw e at (c .before .before .loop .inv .1)) (c .spread .ensures)
+returns-2 c = let l = c .before .before .before in let a = l .before .before in let e : l .loop .p ≡ a .args .count = omega arith in group-spread (a .args .bytes .now) _ (a .pre .1) (rw e at (l .loop .inv .1)) (c .spread .ensures)
 
 pub group-spec : {M : Type 1} → statement M
 group-spec =
