@@ -55,6 +55,6 @@ fn main() {
     let first = taking.first;
     let second = taking.second;
     let mut out = [0u8; put_lines::LINES];
-    let n = report::report(&left[..first], &right[..second], &mut out);
+    let n = alike_report::report(&left[..first], &right[..second], &mut out);
     io::write_all(1, &out[..n]);
 }

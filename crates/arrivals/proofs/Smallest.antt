@@ -8,21 +8,21 @@ use native.Mathlib.Nat.{mul-le-mul-right, mod-lt, div-lt-iff-lt-mul, div-add-mod
 use native.Mathlib.Omega.{arith}
 use lib.ListN.{getD}
 use Rattle.scope.specs.Limits.{byteValues}
-use Rattle.scope.specs.Machine.{Machine, Same, Equal, Reached}
-use Rattle.scope.specs.Room.{statesOf, nextOf, machine, Sound}
-use Rattle.scope.specs.Canonical.{entry}
-use Rattle.scope.proofs.Run.{run-append, bytes-append, sound-closed}
-use Rattle.slices.proofs.Numbered.{numbered-arrival}
-use Rattle.parts.specs.Refined.{PartsOf}
-use Rattle.plan.specs.Smallest.{smaller, Smallest}
-use Rattle.plan.proofs.Finer.{numbered-finer, finer-rows}
-use Rattle.plan.proofs.Kinded.{Kinded}
-use Rattle.plan.proofs.Rows.{flat}
-use Rattle.arrivals.specs.Swept.{placed, Swept, Numbers}
+use Rattle.scope.specs.Machines.Machine.{Machine, Same, Equal, Reached}
+use Rattle.scope.specs.Machines.Room.{statesOf, nextOf, machine, Sound}
+use Rattle.scope.specs.Machines.Canonical.{entry}
+use Rattle.scope.proofs.Machines.Run.{run-append, bytes-append, sound-closed}
+use Rattle.buffers.proofs.Numbered.{numbered-arrival}
+use Rattle.refinement.specs.Refined.{PartsOf}
+use Rattle.smallest_plan.specs.Smallest.{smaller, Smallest}
+use Rattle.smallest_plan.proofs.Finer.{numbered-finer, finer-rows}
+use Rattle.smallest_plan.proofs.Kinded.{Kinded}
+use Rattle.smallest_plan.proofs.TableRows.{flat}
+use Rattle.arrivals.specs.Swept.{placed, PlacesSwept, Numbers}
 use Rattle.arrivals.proofs.Swept.{swept-few}
 
 module _ {a part kind least column order number into : List ℕ} {kinds n : ℕ} (s : Sound a) (f : PartsOf (machine a) part) (k : Kinded a kind least column kinds)
-    (w : Swept a part column order number kinds n (n * kinds)) (e : Numbers part number into (statesOf a) n) where
+    (w : PlacesSwept a part column order number kinds n (n * kinds)) (e : Numbers part number into (statesOf a) n) where
   abbrev N : Machine
   N = smaller a order into n
 

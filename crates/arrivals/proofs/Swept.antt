@@ -2,7 +2,7 @@
 -- number, so each number is led to from a row before its own.
 --   swept-none, swept-old, swept-new: nothing is read; one place more, that leads to a number or to none
 --   swept-few, swept-fewer, numbers-fit: no more numbers than states, fewer where a part has none; none is above stateLimit
---   Row, Place, row-first, row-place, row-old, row-new, row-fewer, row-end: the same of a row whose cells begin at a place of the table
+--   RowSweep, RowPlace, row-first, row-place, row-old, row-new, row-fewer, row-end: the same of a row whose cells begin at a place of the table
 --   numbers-none, numbers-old, numbers-new: the numbers of no state; of one more whose part has none, or has one
 use Prim.Native.Nat.{ℕ, _+_, _*_, _/_, _≤_, _<_}
 use mathlib.Core.Path.{_≡_, refl, sym, ap, _∙_}
@@ -15,16 +15,16 @@ use borrow.Author.Count.{below-more}
 use lib.ListN.{length, getD, set, replicate, length-set, length-replicate, getD-replicate}
 use lib.Seq.{getD-set-same, getD-set-other}
 use Rattle.scope.specs.Limits.{classLimit, stateLimit, cellsAt, roomBytes}
-use Rattle.scope.specs.Room.{statesOf, classesOf, cellOf, machine, Below, Sound}
-use Rattle.slices.proofs.Numbered.{numbered-none, numbered-old, numbered-new, numbered-few, numbered-fewer}
-use Rattle.parts.specs.Refined.{PartsOf}
-use Rattle.room.proofs.Laws.{cell-known}
-use Rattle.plan.proofs.Rows.{flat}
-use Rattle.arrivals.specs.Swept.{leads, placed, Ready, Back, Forth, Earlier, Swept, Numbers}
+use Rattle.scope.specs.Machines.Room.{statesOf, classesOf, cellOf, machine, Below, Sound}
+use Rattle.buffers.proofs.Numbered.{numbered-none, numbered-old, numbered-new, numbered-few, numbered-fewer}
+use Rattle.refinement.specs.Refined.{PartsOf}
+use Rattle.room.proofs.HeadAndParts.{cell-known}
+use Rattle.smallest_plan.proofs.TableRows.{flat}
+use Rattle.arrivals.specs.Swept.{leads, placed, Sweepable, Back, Forth, Earlier, PlacesSwept, Numbers}
 
 -- ---- how many numbers there are
 
-module _ {a part column order number : List ℕ} {kinds count e : ℕ} (s : Sound a) (w : Swept a part column order number kinds count e) where
+module _ {a part column order number : List ℕ} {kinds count e : ℕ} (s : Sound a) (w : PlacesSwept a part column order number kinds count e) where
   -- no more numbers than states
   pub swept-few : count ≤ statesOf a
   swept-few = numbered-few (w .numbered) (statesOf a) (λ t. t) (λ v h. w .back v h .inside) (λ v u g h z. z)
@@ -38,12 +38,12 @@ module _ {a part column order number : List ℕ} {kinds count e : ℕ} (s : Soun
   swept-fewer t h z = numbered-fewer (w .numbered) (statesOf a) (λ t. t) (λ v l. w .back v l .inside) (λ v u g l y. y) t h (other t z)
 
 -- numbers are below stateLimit, and a part without one has that
-pub numbers-fit : {a part column order number : List ℕ} {kinds count e : ℕ} → Sound a → Swept a part column order number kinds count e → Below number 0 (statesOf a) (stateLimit + 1)
+pub numbers-fit : {a part column order number : List ℕ} {kinds count e : ℕ} → Sound a → PlacesSwept a part column order number kinds count e → Below number 0 (statesOf a) (stateLimit + 1)
 numbers-fit s w t h g = ⊎-elim (λ x. omega arith) (λ x. omega (arith, x .below, swept-few s w, s .few-states)) (w .forth t h)
 
 -- ---- one place more
 
-module _ {a part column order number : List ℕ} {kinds count q i : ℕ} (s : Sound a) (f : PartsOf (machine a) part) (w : Swept a part column order number kinds count (q * kinds + i))
+module _ {a part column order number : List ℕ} {kinds count q i : ℕ} (s : Sound a) (f : PartsOf (machine a) part) (w : PlacesSwept a part column order number kinds count (q * kinds + i))
     (h : q < count) (m : i < kinds) (k : getD column i 0 < classesOf a) where
   -- the place is that of the row q and the kind i
   is-place : (l : List ℕ) → placed a part column l kinds (q * kinds + i) ≡ leads a part l q (getD column i 0)
@@ -56,7 +56,7 @@ module _ {a part column order number : List ℕ} {kinds count q i : ℕ} (s : So
   lead-in = f .inside _ read-in
 
   -- the place leads to a part with a number
-  pub swept-old : (getD number (leads a part order q (getD column i 0)) 0 ≡ stateLimit → ⊥) → Swept a part column order number kinds count (q * kinds + i + 1)
+  pub swept-old : (getD number (leads a part order q (getD column i 0)) 0 ≡ stateLimit → ⊥) → PlacesSwept a part column order number kinds count (q * kinds + i + 1)
   swept-old n = record {
     order-size = w .order-size;
     number-size = w .number-size;
@@ -73,7 +73,7 @@ module _ {a part column order number : List ℕ} {kinds count q i : ℕ} (s : So
 
   -- the place leads to a part without one: it takes the next
   pub swept-new : getD number (leads a part order q (getD column i 0)) 0 ≡ stateLimit
-      → Swept a part column (set order count (leads a part order q (getD column i 0))) (set number (leads a part order q (getD column i 0)) count) kinds (count + 1) (q * kinds + i + 1)
+      → PlacesSwept a part column (set order count (leads a part order q (getD column i 0))) (set number (leads a part order q (getD column i 0)) count) kinds (count + 1) (q * kinds + i + 1)
   swept-new e = record {
     order-size = length-set order count t ∙ w .order-size;
     number-size = length-set number t count ∙ w .number-size;
@@ -153,7 +153,7 @@ module _ {a part column order number : List ℕ} {kinds count q i : ℕ} (s : So
 
 -- nothing is read, and the part of the state 0 has the number 0
 pub swept-none : (a part column : List ℕ) (kinds : ℕ) → Sound a → PartsOf (machine a) part
-    → Swept a part column (set (replicate stateLimit 0) 0 (getD part 0 0)) (set (replicate stateLimit stateLimit) (getD part 0 0) 0) kinds 1 (0 * kinds)
+    → PlacesSwept a part column (set (replicate stateLimit 0) 0 (getD part 0 0)) (set (replicate stateLimit stateLimit) (getD part 0 0) 0) kinds 1 (0 * kinds)
 swept-none a part column kinds s f = record {
   order-size = length-set (replicate stateLimit 0) 0 p ∙ length-replicate {A = ℕ} stateLimit 0;
   number-size = length-set (replicate stateLimit stateLimit) p 0 ∙ size;
@@ -184,18 +184,18 @@ swept-none a part column kinds s f = record {
 
 -- ---- a row, as it is read: its cells begin at `row` of the table
 
-pub record Row (a part column order number : List ℕ) (kinds count q i row : ℕ) : Type 0 where
+pub record RowSweep (a part column order number : List ℕ) (kinds count q i row : ℕ) : Type 0 where
   pub in-row : i ≤ kinds
   pub in-rows : q < count
   pub is-row : row ≡ getD order q 0 * classesOf a
-  pub swept : Swept a part column order number kinds count (q * kinds + i)
+  pub swept : PlacesSwept a part column order number kinds count (q * kinds + i)
 
 -- the row begins
-pub row-first : {a part column order number : List ℕ} {kinds count : ℕ} (q : ℕ) → Swept a part column order number kinds count (q * kinds) → Swept a part column order number kinds count (q * kinds + 0)
+pub row-first : {a part column order number : List ℕ} {kinds count : ℕ} (q : ℕ) → PlacesSwept a part column order number kinds count (q * kinds) → PlacesSwept a part column order number kinds count (q * kinds + 0)
 row-first {kinds = kinds} q w = let z : q * kinds + 0 ≡ q * kinds = omega arith in rw z w
 
 -- what is read at the kind i: a column, a cell, a part and its number
-pub record Place (a part column number : List ℕ) (row i : ℕ) : Type 0 where
+pub record RowPlace (a part column number : List ℕ) (row i : ℕ) : Type 0 where
   pub column-fits : getD column i 0 < classLimit
   pub place-fits : cellsAt + (row + getD column i 0) < roomBytes
   pub long : roomBytes ≤ length a
@@ -203,9 +203,9 @@ pub record Place (a part column number : List ℕ) (row i : ℕ) : Type 0 where
   pub part-fits : getD part (getD a (cellsAt + (row + getD column i 0)) 0) 0 < stateLimit
   pub number-fits : getD number (getD part (getD a (cellsAt + (row + getD column i 0)) 0) 0) 0 ≤ stateLimit
 
-module _ {a part column order number : List ℕ} {kinds count q i row : ℕ} (d : Ready a part column kinds) (r : Row a part column order number kinds count q i row) where
+module _ {a part column order number : List ℕ} {kinds count q i row : ℕ} (d : Sweepable a part column kinds) (r : RowSweep a part column order number kinds count q i row) where
   -- the row ends
-  pub row-end : i ≡ kinds → Swept a part column order number kinds count ((q + 1) * kinds)
+  pub row-end : i ≡ kinds → PlacesSwept a part column order number kinds count ((q + 1) * kinds)
   row-end z = let y : q * kinds + i ≡ (q + 1) * kinds = omega (arith, add-mul q 1 kinds) in rw y at (r .swept)
 
   module _ (h : i < kinds) where
@@ -224,7 +224,7 @@ module _ {a part column order number : List ℕ} {kinds count q i row : ℕ} (d 
     cell : (cellsAt + (row + getD column i 0) < roomBytes) × (getD a (cellsAt + (row + getD column i 0)) 0 < statesOf a)
     cell = rw (r .is-row) (cell-known (d .sound) (getD order q 0) (getD column i 0) (r .swept .back q (r .in-rows) .inside) column-in)
 
-    pub row-place : Place a part column number row i
+    pub row-place : RowPlace a part column number row i
     row-place = record {
       column-fits = omega (arith, column-in, d .sound .few-classes);
       place-fits = cell .0;
@@ -234,7 +234,7 @@ module _ {a part column order number : List ℕ} {kinds count q i row : ℕ} (d 
       number-fits = omega (arith, numbers-fit (d .sound) (r .swept) _ lead-below (omega arith));
     }
 
-    pub row-old : (getD number (getD part (getD a (cellsAt + (row + getD column i 0)) 0) 0) 0 ≡ stateLimit → ⊥) → Row a part column order number kinds count q (i + 1) row
+    pub row-old : (getD number (getD part (getD a (cellsAt + (row + getD column i 0)) 0) 0) 0 ≡ stateLimit → ⊥) → RowSweep a part column order number kinds count q (i + 1) row
     row-old n = record {
       in-row = omega arith;
       in-rows = r .in-rows;
@@ -247,7 +247,7 @@ module _ {a part column order number : List ℕ} {kinds count q i row : ℕ} (d 
       row-fewer = omega (arith, swept-fewer (d .sound) (r .swept) _ lead-below e, d .sound .few-states)
 
       pub row-new :
-          Row a part column (set order count (getD part (getD a (cellsAt + (row + getD column i 0)) 0) 0))
+          RowSweep a part column (set order count (getD part (getD a (cellsAt + (row + getD column i 0)) 0) 0))
           (set number (getD part (getD a (cellsAt + (row + getD column i 0)) 0) 0) count) kinds (count + 1) q (i + 1) row
       row-new = record {
         in-row = omega arith;

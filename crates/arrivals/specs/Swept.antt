@@ -1,10 +1,10 @@
 -- The parts of a room's states, numbered on first arrival. A part is named by its least state, and the bytes are read by kinds: all bytes of a kind have one class in the
 -- room, its column. What is read are the places of a table: x is that of the row x / kinds and the kind x % kinds.
---   Ready a part column kinds: what is numbered: the parts of a sound room, over the columns
+--   Sweepable a part column kinds: what is numbered: the parts of a sound room, over the columns
 --   leads a part order q u: the part to which the state with the number q is led by the column u
 --   placed a part column order kinds x: the part to which the place x leads
 --   Back: a number has a part; Forth: a part has a number; Earlier: a place in a row before v leads to the number v
---   Swept a part column order number kinds count e: the first e places are read, and count parts have a number
+--   PlacesSwept a part column order number kinds count e: the first e places are read, and count parts have a number
 --   Numbers part number into n count: into has the number of the part of each of the first n states, where that is below count
 --   Arrived a part column order into kinds n: all is read
 use Prim.Native.Nat.{ℕ, _*_, _/_, _%_, _≤_, _<_}
@@ -13,11 +13,11 @@ use mathlib.Core.Logic.{_⊎_}
 use mathlib.Core.List.{List}
 use lib.ListN.{length, getD}
 use Rattle.scope.specs.Limits.{byteValues, stateLimit}
-use Rattle.scope.specs.Room.{statesOf, classesOf, cellOf, machine, Below, Sound}
-use Rattle.slices.specs.Numbered.{Numbered}
-use Rattle.parts.specs.Refined.{PartsOf}
+use Rattle.scope.specs.Machines.Room.{statesOf, classesOf, cellOf, machine, Below, Sound}
+use Rattle.buffers.specs.Numbered.{Numbered}
+use Rattle.refinement.specs.Refined.{PartsOf}
 
-pub record Ready (a part column : List ℕ) (kinds : ℕ) : Type 0 where
+pub record Sweepable (a part column : List ℕ) (kinds : ℕ) : Type 0 where
   pub sound : Sound a
   pub parts : PartsOf (machine a) part
   pub few : kinds ≤ byteValues
@@ -45,7 +45,7 @@ pub record Earlier (a part column order : List ℕ) (kinds v : ℕ) : Type 0 whe
   pub here : placed a part column order kinds place ≡ getD order v 0
 
 -- the part of the state 0 has the number 0 before any place is read
-pub record Swept (a part column order number : List ℕ) (kinds count e : ℕ) : Type 0 where
+pub record PlacesSwept (a part column order number : List ℕ) (kinds count e : ℕ) : Type 0 where
   pub order-size : length order ≡ stateLimit
   pub number-size : length number ≡ stateLimit
   pub start : getD order 0 0 ≡ getD part 0 0
@@ -60,5 +60,5 @@ pub record Numbers (part number into : List ℕ) (n count : ℕ) : Type 0 where
 
 pub record Arrived (a part column order into : List ℕ) (kinds n : ℕ) : Type 0 where
   pub number : List ℕ
-  pub swept : Swept a part column order number kinds n (n * kinds)
+  pub swept : PlacesSwept a part column order number kinds n (n * kinds)
   pub numbers : Numbers part number into (statesOf a) n

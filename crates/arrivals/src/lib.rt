@@ -3,13 +3,13 @@
 use scope::Machine;
 ghost use Prim.Native.Nat.{_+_, _*_, _≤_, _<_};
 ghost use Rattle.scope.specs.Limits.{stateLimit};
-ghost use Rattle.scope.specs.Room.{Below};
-ghost use Rattle.arrivals.specs.Swept.{Ready, Swept, Numbers, Arrived};
+ghost use Rattle.scope.specs.Machines.Room.{Below};
+ghost use Rattle.arrivals.specs.Swept.{Sweepable, PlacesSwept, Numbers, Arrived};
 
 // Numbers the parts to which the state q leads that have no number yet; how many have one then.
 fn sweep(
     from: &[u8],
-    part: &[u16; parts::STATES],
+    part: &[u16; refinement::STATES],
     column: &[u8; Machine::BYTES],
     kinds: usize,
     q: usize,
@@ -17,9 +17,9 @@ fn sweep(
     number: &mut [u16; Machine::STATES],
     count: usize,
 ) -> usize
-    requires { ⌜ Ready (now from) (now part) (now column) kinds ⌝ }
-    requires { ⌜ (q < count) × Swept (now from) (now part) (now column) (now order) (now number) kinds count (q * kinds) ⌝ }
-    ensures { λ r. ⌜ (q < r) × Swept (now (from .entry)) (now (part .entry)) (now (column .entry)) (now (order .exit)) (now (number .exit)) kinds r ((q + 1) * kinds) ⌝ }
+    requires { ⌜ Sweepable (now from) (now part) (now column) kinds ⌝ }
+    requires { ⌜ (q < count) × PlacesSwept (now from) (now part) (now column) (now order) (now number) kinds count (q * kinds) ⌝ }
+    ensures { λ r. ⌜ (q < r) × PlacesSwept (now (from .entry)) (now (part .entry)) (now (column .entry)) (now (order .exit)) (now (number .exit)) kinds r ((q + 1) * kinds) ⌝ }
 {
     let k = room::head(from).classes;
     let row = order[q] as usize * k;
@@ -39,7 +39,7 @@ fn sweep(
 
 // The number of the part of each of the first n states, 0 where it has none. Numbers are below `count`: the mark of a part that has none is never taken for one.
 fn numbers(
-    part: &[u16; parts::STATES],
+    part: &[u16; refinement::STATES],
     number: &[u16; Machine::STATES],
     n: usize,
     count: usize,
@@ -69,11 +69,11 @@ pub struct States {
 // Numbers the parts on first arrival.
 pub fn arrivals(
     from: &[u8],
-    part: &[u16; parts::STATES],
+    part: &[u16; refinement::STATES],
     column: &[u8; Machine::BYTES],
     kinds: usize,
 ) -> States
-    requires { ⌜ Ready (now from) (now part) (now column) kinds ⌝ }
+    requires { ⌜ Sweepable (now from) (now part) (now column) kinds ⌝ }
     ensures { λ r. ⌜ Arrived (now (from .entry)) (now (part .entry)) (now (column .entry)) (r .order) (r .into) kinds (r .count) ⌝ }
 {
     let mut order = [0u8; Machine::STATES];

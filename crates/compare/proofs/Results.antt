@@ -9,27 +9,27 @@ use mathlib.Core.List.{List}
 use native.Mathlib.Omega.{arith}
 use Rattle.scope.specs.Answers.{SAME, SEPARATED}
 use Rattle.scope.specs.Limits.{wordBytes}
-use Rattle.scope.specs.Room.{statesOf, machine, Sound}
-use Rattle.scope.specs.Rounds.{Rounds}
-use Rattle.scope.specs.Compare.{Compares, no-room, no-form, same, separated}
-use Rattle.scope.proofs.Run.{sound-closed}
-use Rattle.scope.proofs.Agree.{Agree, agree-same}
-use Rattle.scope.proofs.Aside.{rounds-two}
-use Rattle.scope.proofs.Separate.{equal-by, word-within}
-use Rattle.sides.specs.Side.{both}
-use Rattle.agree.specs.Parts.{Alike}
-use Rattle.parts.specs.Refined.{Refined}
-use Rattle.parts.proofs.Refined.{refined-together, both-few}
+use Rattle.scope.specs.Machines.Room.{statesOf, machine, Sound}
+use Rattle.scope.specs.Machines.Rounds.{Rounds}
+use Rattle.scope.specs.Operations.Compare.{Compares, no-room, no-form, same, separated}
+use Rattle.scope.proofs.Machines.Run.{sound-closed}
+use Rattle.scope.proofs.Machines.SameMoves.{SameMoves, agree-same}
+use Rattle.scope.proofs.Machines.Aside.{rounds-two}
+use Rattle.scope.proofs.Machines.Separate.{equal-by, word-within}
+use Rattle.two_rooms.specs.Side.{both}
+use Rattle.parting.specs.Named.{OnePart}
+use Rattle.refinement.specs.Refined.{Refined}
+use Rattle.refinement.proofs.Refined.{refined-together, both-few}
 use Rattle.compare.specs.Twins.{Twins}
-use Rattle.spelling.specs.Word.{Apart, Between, Spells, Holds}
-use Rattle.compare.specs.Answers.{Answers}
+use Rattle.spelling.specs.Word.{Apart, Between, Spells, WordHas}
+use Rattle.compare.specs.CompareAnswer.{AnswersCompare}
 use Rattle.compare.proofs.Twins.{twins-agree, rounds-twice}
 
 -- the rooms hold one machine
-pub answer-twins : {a b word : List ℕ} {rounds : ℕ} → Sound a → Sound b → Twins a b → Rounds (machine a) rounds → Answers a b word word SAME 0 rounds
+pub answer-twins : {a b word : List ℕ} {rounds : ℕ} → Sound a → Sound b → Twins a b → Rounds (machine a) rounds → AnswersCompare a b word word SAME 0 rounds
 answer-twins {a} {b} {rounds = rounds} s t e d bytes bytes′ words words′ lent clear =
     let c = sound-closed a s in
-    let m : Agree (machine a) (machine b) = twins-agree a b s e in
+    let m : SameMoves (machine a) (machine b) = twins-agree a b s e in
     same lent s t (agree-same (machine a) (machine b) c m 0 (s .some-state)) (rounds-twice (machine a) (machine b) c m rounds d) refl clear
 
 module _ {a b part parent born : List ℕ} {rounds : ℕ} (s : Sound a) (t : Sound b) (d : Refined (both a b) part parent born rounds) where
@@ -40,14 +40,14 @@ module _ {a b part parent born : List ℕ} {rounds : ℕ} (s : Sound a) (t : Sou
   second = omega (arith, t .some-state)
 
   -- the starts lie in one part
-  pub answer-same : {word : List ℕ} → Alike part 0 (statesOf a) → Answers a b word word SAME 0 rounds
+  pub answer-same : {word : List ℕ} → OnePart part 0 (statesOf a) → AnswersCompare a b word word SAME 0 rounds
   answer-same e bytes bytes′ words words′ lent clear = same lent s t
       (equal-by (machine a) (machine b) (sound-closed a s) (sound-closed b t) rounds (d .last)
       (refined-together (both a b) part parent born rounds d 0 (statesOf a) first second .0 e))
       (d .last) refl clear
 
   -- they do not: their distance can be found
-  pub answer-apart : (Alike part 0 (statesOf a) → ⊥) → Apart part parent born 0 (statesOf a) rounds
+  pub answer-apart : (OnePart part 0 (statesOf a) → ⊥) → Apart part parent born 0 (statesOf a) rounds
   answer-apart n = record { machine = both a b; refined = d; few = omega (arith, s .few-states, t .few-states); left = first; right = second; two = n }
 
   -- then the string can be spelled
@@ -59,7 +59,7 @@ module _ {a b part parent born : List ℕ} {rounds : ℕ} (s : Sound a) (t : Sou
   answer-fits e = omega (arith, e .within, both-few a b part parent born rounds s t d, s .few-states, t .few-states)
 
   -- it is written
-  pub answer-separated : {word word′ : List ℕ} {n : ℕ} → Holds a b word word′ n → Answers a b word word′ SEPARATED n rounds
+  pub answer-separated : {word word′ : List ℕ} {n : ℕ} → WordHas a b word word′ n → AnswersCompare a b word word′ SEPARATED n rounds
   answer-separated h bytes bytes′ words words′ lent clear = separated lent s t (h .separation) (h .long) (d .last) (h .written) clear
 
 -- the string is no longer than the rounds, and these are at most s + t - 2

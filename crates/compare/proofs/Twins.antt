@@ -9,19 +9,19 @@ use mathlib.Core.List.{List}
 use native.Mathlib.Omega.{arith}
 use lib.Dec.{eqb}
 use Rattle.scope.specs.Limits.{classesAt, marksAt, cellsAt}
-use Rattle.scope.specs.Machine.{Machine, Same, Closed}
-use Rattle.scope.specs.Room.{statesOf, classesOf, classOf, nextOf, machine, Sound}
-use Rattle.scope.specs.Rounds.{aside, Rounds, Enough}
-use Rattle.scope.proofs.Tests.{split}
-use Rattle.scope.proofs.Room.{cell-used}
-use Rattle.scope.proofs.Agree.{Agree, agree-closed, agree-same}
-use Rattle.scope.proofs.Rounds.{rounds-enough}
-use Rattle.scope.proofs.Aside.{aside-closed, left-run, right-run}
-use Rattle.room.proofs.Laws.{head-same}
+use Rattle.scope.specs.Machines.Machine.{Machine, Same, Closed}
+use Rattle.scope.specs.Machines.Room.{statesOf, classesOf, classOf, nextOf, machine, Sound}
+use Rattle.scope.specs.Machines.Rounds.{aside, Rounds, Enough}
+use Rattle.scope.proofs.Counting.Tests.{split}
+use Rattle.scope.proofs.Machines.Room.{cell-used}
+use Rattle.scope.proofs.Machines.SameMoves.{SameMoves, agree-closed, agree-same}
+use Rattle.scope.proofs.Machines.Rounds.{rounds-enough}
+use Rattle.scope.proofs.Machines.Aside.{aside-closed, left-run, right-run}
+use Rattle.room.proofs.HeadAndParts.{head-same}
 use Rattle.compare.specs.Twins.{Twins}
 
 -- the same bytes: the same header, classes, marks and used cells
-pub twins-agree : (a b : List ℕ) → Sound a → Twins a b → Agree (machine a) (machine b)
+pub twins-agree : (a b : List ℕ) → Sound a → Twins a b → SameMoves (machine a) (machine b)
 unfolding nextOf
 twins-agree a b s e = record {
   states = head .0;
@@ -40,7 +40,7 @@ enough M N f r e p q h k u w g =
     x w g ∙ e p′ q′ i j (λ v o l. sym (x v o) ∙ u v o l ∙ y v o) w g ∙ sym (y w g)
 
 -- a state of N folds onto its fellow in M
-pub rounds-twice : (M N : Machine) → Closed M → Agree M N → (r : ℕ) → Rounds M r → Rounds (aside M N) r
+pub rounds-twice : (M N : Machine) → Closed M → SameMoves M N → (r : ℕ) → Rounds M r → Rounds (aside M N) r
 rounds-twice M N c a r s =
     let (e, n) = rounds-enough M c r .0 s in
     rounds-enough (aside M N) (aside-closed M N c d) r .1 (enough (aside M N) M fold r e, λ k h f. n k h (enough M (aside M N) alone k f))

@@ -1,3 +1,3 @@
 -- What the contracts of comparing cite.
 pub mod Twins
-pub mod Answers
+pub mod CompareAnswer

@@ -3,8 +3,8 @@
 use Prim.Native.Nat.{ℕ, _+_, _*_}
 use mathlib.Core.List.{List}
 use Rattle.scope.specs.Limits.{cellsAt}
-use Rattle.scope.specs.Room.{statesOf, classesOf}
-use Rattle.slices.specs.Parts.{Alike}
+use Rattle.scope.specs.Machines.Room.{statesOf, classesOf}
+use Rattle.buffers.specs.Stored.{BeginAlike}
 
 abbrev pub Twins : List ℕ → List ℕ → Type 0
-Twins a b = Alike a b (cellsAt + statesOf a * classesOf a)
+Twins a b = BeginAlike a b (cellsAt + statesOf a * classesOf a)

@@ -9,13 +9,13 @@ use scope::Machine;
 ghost use Prim.Native.Nat.{_≤_};
 ghost use lib.ListN.{length};
 ghost use Rattle.scope.specs.Answers.{comparedNumber, comparedLength, comparedRounds};
-ghost use Rattle.scope.specs.Compare.{CompareLent, Compares};
+ghost use Rattle.scope.specs.Operations.Compare.{CompareLent, Compares};
 ghost use Rattle.scope.specs.Limits.{wordBytes};
-ghost use Rattle.scope.specs.Room.{machine, Sound};
-ghost use Rattle.scope.specs.Rounds.{Rounds};
-ghost use Rattle.slices.specs.Parts.{Decides};
+ghost use Rattle.scope.specs.Machines.Room.{machine, Sound};
+ghost use Rattle.scope.specs.Machines.Rounds.{Rounds};
+ghost use Rattle.buffers.specs.Stored.{Decides};
 ghost use Rattle.compare.specs.Twins.{Twins};
-ghost use Rattle.compare.specs.Answers.{Answers};
+ghost use Rattle.compare.specs.CompareAnswer.{AnswersCompare};
 
 // Whether the two rooms, the string room and the scratch are long enough.
 fn is_lent(left: &[u8], right: &[u8], word: &[u8], bytes: &[u8], words: &[u64]) -> bool
@@ -30,7 +30,7 @@ fn is_lent(left: &[u8], right: &[u8], word: &[u8], bytes: &[u8], words: &[u64]) 
     if word.len() < Machine::WORD {
         return false;
     }
-    slices::is_scratch(bytes, words)
+    buffers::is_scratch(bytes, words)
 }
 
 // Whether both rooms hold one machine byte for byte, as far as the used cells go.
@@ -40,7 +40,7 @@ fn are_twins(left: &[u8], right: &[u8]) -> bool
 {
     let machine = room::head(left);
     let cells = machine.states * machine.classes;
-    slices::same(left, right, Machine::CELLS_AT + cells)
+    buffers::same(left, right, Machine::CELLS_AT + cells)
 }
 
 // The rounds of one room's machine alone.
@@ -49,32 +49,32 @@ fn rounds_alone(room: &[u8]) -> usize
     ensures { λ r. ⌜ Rounds (machine (now (room .entry))) r ⌝ }
 {
     let mut column = [0u8; Machine::BYTES];
-    let mut part = [0u16; parts::STATES];
-    parts::refine_alone(room, &mut column, &mut part).rounds
+    let mut part = [0u16; refinement::STATES];
+    refinement::refine_alone(room, &mut column, &mut part).rounds
 }
 
 // The answer for two sound rooms.
 fn answer(left: &[u8], right: &[u8], word: &mut [u8]) -> Compared
     requires { ⌜ Sound (now left) × Sound (now right) ⌝ }
     requires { ⌜ wordBytes ≤ length (now word) ⌝ }
-    ensures { λ r. ⌜ Answers (now (left .entry)) (now (right .entry)) (now (word .entry)) (now (word .exit)) (comparedNumber r) (comparedLength r) (comparedRounds r) ⌝ }
+    ensures { λ r. ⌜ AnswersCompare (now (left .entry)) (now (right .entry)) (now (word .entry)) (now (word .exit)) (comparedNumber r) (comparedLength r) (comparedRounds r) ⌝ }
 {
     if are_twins(left, right) {
         return Compared::Same(rounds_alone(left));
     }
     let s = room::head(left).states;
     let n = s + room::head(right).states;
-    let kinds = sides::kinds(left, right, Machine::BYTES);
+    let kinds = two_rooms::kinds(left, right, Machine::BYTES);
     let least = kinds.least;
     let count = kinds.count;
     let mut left_columns = [0u8; Machine::BYTES];
     let mut right_columns = [0u8; Machine::BYTES];
-    sides::columns(left, &least, count, &mut left_columns);
-    sides::columns(right, &least, count, &mut right_columns);
-    let mut part = [0u16; parts::STATES];
-    let mut parent = [0u16; parts::STATES];
-    let mut born = [0u16; parts::STATES];
-    let rounds = parts::refine(
+    two_rooms::columns(left, &least, count, &mut left_columns);
+    two_rooms::columns(right, &least, count, &mut right_columns);
+    let mut part = [0u16; refinement::STATES];
+    let mut parent = [0u16; refinement::STATES];
+    let mut born = [0u16; refinement::STATES];
+    let rounds = refinement::refine(
         left,
         right,
         &left_columns,
@@ -106,7 +106,7 @@ pub fn compare(
     if !is_lent(left, right, word, bytes, words) {
         return Compared::Room;
     }
-    slices::clear(bytes, words);
+    buffers::clear(bytes, words);
     if !room::is_sound(left) || !room::is_sound(right) {
         return Compared::Form;
     }

@@ -1,5 +1,5 @@
 // Comparing with its answer as numbers, for the C boundary.
-ghost use Rattle.scope.specs.Compare.{Compares};
+ghost use Rattle.scope.specs.Operations.Compare.{Compares};
 
 // Compares, returns the number of the answer, and writes its length and rounds.
 pub fn compare(

@@ -1,2 +1,2 @@
 -- What the contracts of compiling cite.
-pub mod Passes
+pub mod CompilePasses

@@ -6,18 +6,18 @@ use scope::Compiled;
 use scope::Machine;
 use sets::layout;
 ghost use Rattle.scope.specs.Answers.{compiledNumber, compiledPlace};
-ghost use Rattle.scope.specs.Buffers.{Scratch, Lent};
-ghost use Rattle.scope.specs.Compile.{Compiles};
-ghost use Rattle.pattern.specs.Reading.{Judged as Legal};
-ghost use Rattle.compile.specs.Passes.{Reads, Answers};
+ghost use Rattle.scope.specs.Operations.Buffers.{Scratch, Lent};
+ghost use Rattle.scope.specs.Operations.Compile.{Compiles};
+ghost use Rattle.pattern.specs.PatternSets.{Faultless};
+ghost use Rattle.compile.specs.CompilePasses.{ReadsText, AnswersCompile};
 
 // Reads a text that was judged legal: its sets come into the scratch, First as what follows the start.
 fn read(text: &[u8], bytes: &mut [u8], words: &mut [u64]) -> Shape
-    requires { ⌜ Legal (now text) × Scratch (now bytes) (now words) ⌝ }
-    ensures { λ r. ⌜ Reads (now (text .entry)) (now (bytes .entry)) (now (bytes .exit)) (now (words .entry)) (now (words .exit)) r ⌝ }
+    requires { ⌜ Faultless (now text) × Scratch (now bytes) (now words) ⌝ }
+    ensures { λ r. ⌜ ReadsText (now (text .entry)) (now (bytes .entry)) (now (bytes .exit)) (now (words .entry)) (now (words .exit)) r ⌝ }
 {
-    slices::fill(bytes, 0, layout::IMAGE_AT, 0);
-    slices::fill_words(words, 0, layout::WORD_SETS, 0);
+    buffers::fill(bytes, 0, layout::IMAGE_AT, 0);
+    buffers::fill_words(words, 0, layout::WORD_SETS, 0);
     let shape = pattern::read(text, bytes, words);
     let first = shape.first;
     sets::store(words, 0, first);
@@ -26,8 +26,8 @@ fn read(text: &[u8], bytes: &mut [u8], words: &mut [u64]) -> Shape
 
 // Builds the machine of a text that was judged legal, and makes it smallest into the room.
 fn build(text: &[u8], room: &mut [u8], bytes: &mut [u8], words: &mut [u64]) -> Compiled
-    requires { ⌜ Legal (now text) × Lent (now room) (now bytes) (now words) ⌝ }
-    ensures { λ r. ⌜ Answers (now (text .entry)) (now (room .entry)) (now (room .exit)) (now (bytes .entry)) (now (bytes .exit)) (now (words .entry)) (now (words .exit)) (compiledNumber r) (compiledPlace r) ⌝ }
+    requires { ⌜ Faultless (now text) × Lent (now room) (now bytes) (now words) ⌝ }
+    ensures { λ r. ⌜ AnswersCompile (now (text .entry)) (now (room .entry)) (now (room .exit)) (now (bytes .entry)) (now (bytes .exit)) (now (words .entry)) (now (words .exit)) (compiledNumber r) (compiledPlace r) ⌝ }
 {
     let shape = read(text, bytes, words);
     let last = shape.last;
@@ -45,14 +45,14 @@ fn build(text: &[u8], room: &mut [u8], bytes: &mut [u8], words: &mut [u64]) -> C
 // Judges the text, and builds its machine if it is legal.
 fn answer(text: &[u8], room: &mut [u8], bytes: &mut [u8], words: &mut [u64]) -> Compiled
     requires { ⌜ Lent (now room) (now bytes) (now words) ⌝ }
-    ensures { λ r. ⌜ Answers (now (text .entry)) (now (room .entry)) (now (room .exit)) (now (bytes .entry)) (now (bytes .exit)) (now (words .entry)) (now (words .exit)) (compiledNumber r) (compiledPlace r) ⌝ }
+    ensures { λ r. ⌜ AnswersCompile (now (text .entry)) (now (room .entry)) (now (room .exit)) (now (bytes .entry)) (now (bytes .exit)) (now (words .entry)) (now (words .exit)) (compiledNumber r) (compiledPlace r) ⌝ }
 {
     if text.len() > Machine::PATTERN {
         return Compiled::Long;
     }
     let judged = judge::judge(text);
     match judged {
-        Judged::Legal => build(text, room, bytes, words),
+        Judged::Faultless => build(text, room, bytes, words),
         Judged::Syntax(i) => Compiled::Syntax(i),
         Judged::Range(i) => Compiled::Range(i),
         Judged::Depth(i) => Compiled::Depth(i),
@@ -64,10 +64,10 @@ fn answer(text: &[u8], room: &mut [u8], bytes: &mut [u8], words: &mut [u64]) -> 
 pub fn compile(text: &[u8], room: &mut [u8], bytes: &mut [u8], words: &mut [u64]) -> Compiled
     ensures { λ r. ⌜ Compiles (now (text .entry)) (now (room .entry)) (now (room .exit)) (now (bytes .entry)) (now (bytes .exit)) (now (words .entry)) (now (words .exit)) (compiledNumber r) (compiledPlace r) ⌝ }
 {
-    if !slices::is_lent(room, bytes, words) {
+    if !buffers::is_lent(room, bytes, words) {
         return Compiled::Room;
     }
     let answer = answer(text, room, bytes, words);
-    slices::clear(bytes, words);
+    buffers::clear(bytes, words);
     answer
 }

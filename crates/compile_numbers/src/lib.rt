@@ -1,5 +1,5 @@
 // Compiling with its answer as numbers, for the C boundary.
-ghost use Rattle.scope.specs.Compile.{Compiles};
+ghost use Rattle.scope.specs.Operations.Compile.{Compiles};
 
 // Compiles, returns the number of the answer, and writes its place.
 pub fn compile(

@@ -7,11 +7,11 @@ use mathlib.Core.List.{List}
 use native.Mathlib.Omega.{arith}
 use lib.ListN.{length, set, length-set}
 use lib.Seq.{getD-set-same, getD-set-other}
-use Rattle.scope.specs.Buffers.{TailKept}
-use Rattle.slices.specs.Parts.{Stored}
-use Rattle.forms.specs.Form.{textLimit, lengthsAt, textsAt, formBytes}
-use Rattle.entries.specs.Entry.{nothing}
-use Rattle.entries.specs.Show.{Shows}
+use Rattle.scope.specs.Operations.Buffers.{TailKept}
+use Rattle.buffers.specs.Stored.{Stored}
+use Rattle.entry_form.specs.EntryForm.{textLimit, lengthsAt, textsAt, formBytes}
+use Rattle.desk_rules.specs.Entry.{nothing}
+use Rattle.desk_rules.specs.Show.{Shows}
 
 -- a count and zeros after it are the form of nothing
 module _ (n : ℕ) (form : List ℕ) {form′ : List ℕ} (s : Stored (set form 0 n) form′ 1 formBytes (λ i. 0)) where

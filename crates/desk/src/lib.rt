@@ -4,14 +4,14 @@
 // that the machines are sound, and that the form is one that they and some keys can give. Of the library the desk uses the contracts of matching and of the
 // test whether a room is sound, beside the helpers on slices, and not how they do it. A key costs one judgement of each room, one pass over each closed text,
 // and one match of the open field. The rules are those of `entries`; `forms` judges a form, `standings` how its open field stands; `pressing` and `typing` do the keys.
-pub use entries::Opened;
-pub use entries::Pressed;
-use forms::FIELDS;
-use forms::FORM;
-use forms::test;
-ghost use Rattle.entries.specs.Answers.{openedNumber, pressedNumber};
-ghost use Rattle.entries.specs.Open.{Opens};
-ghost use Rattle.entries.specs.Press.{Presses};
+pub use desk_rules::Opened;
+pub use desk_rules::Pressed;
+use entry_form::FIELDS;
+use entry_form::FORM_BYTES;
+use entry_form::valid;
+ghost use Rattle.desk_rules.specs.DeskAnswers.{openedNumber, pressedNumber};
+ghost use Rattle.desk_rules.specs.Open.{Opens};
+ghost use Rattle.desk_rules.specs.Press.{Presses};
 
 // Opens a form of so many fields, in which nothing is entered.
 pub fn open_form(count: usize, rooms: &[u8], form: &mut [u8]) -> Opened
@@ -23,14 +23,14 @@ pub fn open_form(count: usize, rooms: &[u8], form: &mut [u8]) -> Opened
     if count > FIELDS {
         return Opened::Fields;
     }
-    if !test::is_lent(count, rooms, form) {
+    if !valid::is_lent(count, rooms, form) {
         return Opened::Room;
     }
-    if !test::are_sound(rooms, 0, count) {
+    if !valid::are_sound(rooms, 0, count) {
         return Opened::Form;
     }
     form[0] = count as u8;
-    slices::fill(form, 1, FORM, 0);
+    buffers::fill(form, 1, FORM_BYTES, 0);
     Opened::Done
 }
 
@@ -38,10 +38,10 @@ pub fn open_form(count: usize, rooms: &[u8], form: &mut [u8]) -> Opened
 pub fn press(rooms: &[u8], form: &mut [u8], key: u8) -> Pressed
     ensures { λ r. ⌜ Presses (now (rooms .entry)) (now (form .entry)) (now (form .exit)) key (pressedNumber r) ⌝ }
 {
-    if form.len() < FORM {
+    if form.len() < FORM_BYTES {
         return Pressed::Room;
     }
-    if !test::is_lent(form[0] as usize, rooms, form) {
+    if !valid::is_lent(form[0] as usize, rooms, form) {
         return Pressed::Room;
     }
     pressing::press_lent(rooms, form, key)

@@ -1,6 +1,6 @@
 // The desk with its answers as numbers, for the C boundary.
-ghost use Rattle.entries.specs.Open.{Opens};
-ghost use Rattle.entries.specs.Press.{Presses};
+ghost use Rattle.desk_rules.specs.Open.{Opens};
+ghost use Rattle.desk_rules.specs.Press.{Presses};
 
 // Opens a form, and returns the number of the answer.
 pub fn open_form(count: usize, rooms: &[u8], form: &mut [u8]) -> u8

@@ -16,30 +16,30 @@ use lib.Bits.{bitOr}
 use lib.ListN.{length, getD, take, drop, length-drop}
 use lib.Seq.{length-take-le, drop-at, drop-length, getD-drop}
 use Rattle.scope.specs.Limits.{byteValues, classLimit, positionLimit, roomBytes}
-use Rattle.scope.specs.Re.{Re, size}
-use Rattle.scope.specs.Bits.{has, given, holders, final}
-use Rattle.scope.specs.Buffers.{TailKept, Scratch}
+use Rattle.scope.specs.Text.Re.{Re, size}
+use Rattle.scope.specs.Positions.Bits.{has, given, holders, final}
+use Rattle.scope.specs.Operations.Buffers.{TailKept, Scratch}
 use Rattle.scope.specs.Count.{Over}
-use Rattle.scope.specs.Reached.{Share, ManyClasses, FewClasses}
+use Rattle.scope.specs.Positions.Reached.{Share, ManyClasses, FewClasses}
 use Rattle.scope.specs.Tests.{Tests}
-use Rattle.scope.proofs.Bits.{holders-is, has-given, has-pow}
-use Rattle.scope.proofs.Glushkov.{at-in}
-use Rattle.scope.proofs.Moves.{same-bits, joined-is}
-use Rattle.scope.proofs.Tests.{and, itself, equals, same-test}
-use Rattle.scope.proofs.Buffers.{all-kept}
-use Rattle.slices.proofs.Laws.{part-all}
+use Rattle.scope.proofs.Positions.Bits.{holders-is, has-given, has-pow}
+use Rattle.scope.proofs.Positions.Glushkov.{at-in}
+use Rattle.scope.proofs.Positions.Moves.{same-bits, joined-is}
+use Rattle.scope.proofs.Counting.Tests.{and, itself, equals, same-test}
+use Rattle.scope.proofs.Operations.Buffers.{all-kept}
+use Rattle.buffers.proofs.OneMore.{part-all}
 use Rattle.sets.specs.Layout.{held, imageAt}
-use Rattle.sets.proofs.Held.{bits-same}
-use Rattle.runs.specs.Runs.{Like}
-use Rattle.classes.specs.Group.{Grouped, GroupAnswer}
-use Rattle.classes.specs.Masks.{maskOf, Masked}
-use Rattle.classes.specs.declared.Counted.{Counted}
-use Rattle.classes.specs.declared.Counted.the-variants.{Few, Many}
-use Rattle.classes.proofs.Count.{within-all}
-use Rattle.classes.proofs.Classes.{class-below, class-used}
-use Rattle.classes.proofs.Masking.{mask-like}
-use Rattle.determinise.specs.Image.{Mapped, DescribedBy, ImageCase, ImageAnswer}
-use Rattle.determinise.specs.Build.{Given, Outcome, Builds}
+use Rattle.sets.proofs.HeldBits.{bits-same}
+use Rattle.byte_runs.specs.Runs.{Like}
+use Rattle.byte_classes.specs.Group.{Grouped, GroupAnswer}
+use Rattle.byte_classes.specs.Masks.{maskOf, Masked}
+use Rattle.byte_classes.specs.declared.Counted.{Counted}
+use Rattle.byte_classes.specs.declared.Counted.the-variants.{Few, Many}
+use Rattle.byte_classes.proofs.NumbersMet.{within-all}
+use Rattle.byte_classes.proofs.Classes.{class-below, class-used}
+use Rattle.byte_classes.proofs.Masking.{mask-like}
+use Rattle.determinise.specs.Image.{ClassMap, DescribedBy, ImageCase, ImageAnswer}
+use Rattle.determinise.specs.Build.{Given, BuildOutcome, Builds}
 use Rattle.determinise.specs.declared.Built.{Built}
 use Rattle.determinise.specs.declared.Built.the-variants.{Done, Classes, States}
 
@@ -96,7 +96,7 @@ module _ (e : Re) (bytes words : List ℕ) (count last : ℕ) (null : Bool) (g :
     }
 
 -- the classes of a grouping
-pub mapped : {R : ℕ → ℕ → Type 0} {map : List ℕ} {k : ℕ} → Grouped R map k byteValues → Mapped map k
+pub mapped : {R : ℕ → ℕ → Type 0} {map : List ℕ} {k : ℕ} → Grouped R map k byteValues → ClassMap map k
 mapped c = record {
   some = omega (arith, class-below (c .classes) 0 (omega arith));
   few = c .few;
@@ -149,7 +149,7 @@ module _ {bytes words : List ℕ} (count last : ℕ) (null : Bool) (map : List �
     within : imageAt ≤ length bytes
     within = omega (arith, long .bytes-long)
 
-    case : (r : Built) (e : Re) → FewClasses e → DescribedBy e words masks map finals → ImageCase words masks map finals ys r → Outcome e ys r
+    case : (r : Built) (e : Re) → FewClasses e → DescribedBy e words masks map finals → ImageCase words masks map finals ys r → BuildOutcome e ys r
     case Done e l d z = let (s, w, n) = z e d in record { sound = s; words = w; few-classes = l; few-sets = n }
     case Classes e l d z = absurd z
     case States e l d z = (l, z e d)

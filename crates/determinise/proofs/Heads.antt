@@ -8,14 +8,14 @@ use mathlib.Core.Logic.{inl, inr}
 use native.Mathlib.Omega.{arith}
 use lib.ListN.{getD}
 use Rattle.scope.specs.Limits.{classesAt, marksAt, roomBytes}
-use Rattle.scope.specs.Buffers.{Written}
-use Rattle.slices.specs.Parts.{Stored}
+use Rattle.scope.specs.Operations.Buffers.{Written}
+use Rattle.buffers.specs.Stored.{Stored}
 use Rattle.room.specs.Head.{headByte}
-use Rattle.room.proofs.Laws.{head-is}
-use Rattle.determinise.specs.Image.{markBy, Begun, Stated}
+use Rattle.room.proofs.HeadAndParts.{head-is}
+use Rattle.determinise.specs.Image.{markBy, MapWritten, Stated}
 
 -- the classes, over zeros
-pub begun : (o a b map : List ℕ) → Stored o a 0 roomBytes (λ i. 0) → Stored a b classesAt marksAt (λ i. getD map (i - classesAt) 0) → Begun o b map
+pub begun : (o a b map : List ℕ) → Stored o a 0 roomBytes (λ i. 0) → Stored a b classesAt marksAt (λ i. getD map (i - classesAt) 0) → MapWritten o b map
 begun o a b map u v = record {
   size = v .size ∙ u .size;
   classes = λ i h. (let e : classesAt + i - classesAt ≡ i = omega arith in

@@ -13,23 +13,23 @@ use lib.Dec.{eqb}
 use lib.ListN.{getD}
 use Rattle.scope.specs.Limits.{byteValues, stateLimit, classesAt, marksAt, cellsAt, roomBytes, setWords}
 use Rattle.scope.specs.Bytes.{Bytes}
-use Rattle.scope.specs.Re.{Re, size}
-use Rattle.scope.specs.Bits.{move, final, accepting}
-use Rattle.scope.specs.Buffers.{TailKept}
-use Rattle.scope.specs.Machine.{Machine, walk, run, Closed}
-use Rattle.scope.specs.Reached.{FewSets}
-use Rattle.scope.specs.Room.{statesOf, classesOf, classOf, nextOf, machine, Sound}
-use Rattle.scope.proofs.Reached.{Covers, covers-recognises}
-use Rattle.scope.proofs.Buffers.{tail-then, tail-within}
-use Rattle.scope.proofs.Room.{flat-in}
-use Rattle.scope.proofs.Run.{run-below, sound-closed}
+use Rattle.scope.specs.Text.Re.{Re, size}
+use Rattle.scope.specs.Positions.Bits.{move, final, accepting}
+use Rattle.scope.specs.Operations.Buffers.{TailKept}
+use Rattle.scope.specs.Machines.Machine.{Machine, walk, run, Closed}
+use Rattle.scope.specs.Positions.Reached.{FewSets}
+use Rattle.scope.specs.Machines.Room.{statesOf, classesOf, classOf, nextOf, machine, Sound}
+use Rattle.scope.proofs.Positions.Reached.{Covers, covers-recognises}
+use Rattle.scope.proofs.Operations.Buffers.{tail-then, tail-within}
+use Rattle.scope.proofs.Machines.Room.{flat-in}
+use Rattle.scope.proofs.Machines.Run.{run-below, sound-closed}
 use Rattle.sets.specs.Value.{setAt, Put}
-use Rattle.classes.specs.declared.Counted.{Counted}
-use Rattle.classes.specs.declared.Counted.the-variants.{Few, Many}
+use Rattle.byte_classes.specs.declared.Counted.{Counted}
+use Rattle.byte_classes.specs.declared.Counted.the-variants.{Few, Many}
 use Rattle.sets.specs.Layout.{setsAt}
-use Rattle.seats.specs.Layout.{setOf}
-use Rattle.reach.specs.Reach.{follows, cellAt, Rows, Fits, SetsOf, RowsCase, RowsAnswer}
-use Rattle.determinise.specs.Image.{markBy, Begun, Stated, Mapped, DescribedBy, ImageAnswer}
+use Rattle.seats.specs.SeatLayout.{reachedSet}
+use Rattle.reach.specs.Reach.{follows, cellAt, ReachedRows, RowFits, SetsOf, RowsCase, RowsAnswer}
+use Rattle.determinise.specs.Image.{markBy, MapWritten, Stated, ClassMap, DescribedBy, ImageAnswer}
 use Rattle.determinise.specs.declared.Built.the-variants.{Done, States}
 use Rattle.reach.proofs.Cells.{rows-leads}
 use Rattle.seats.proofs.Kept.{kept-sets, put-kept, kept-tail}
@@ -62,8 +62,8 @@ mark-small true = omega arith
 mark-small false = omega arith
 
 -- o₁: the classes, w₁: the words with {0}, o₂, w₂: with the rows
-module _ (finals : ℕ) {o w m map : List ℕ} {k s : ℕ} {o₁ w₁ o₂ w₂ : List ℕ} {r : Counted} (t : Fits o w m k 0 1) (mp : Mapped map k)
-    (h : Begun o o₁ map) (p : Put w w₁ setsAt s) (a : RowsAnswer o₁ w₁ m k o₂ w₂ r) where
+module _ (finals : ℕ) {o w m map : List ℕ} {k s : ℕ} {o₁ w₁ o₂ w₂ : List ℕ} {r : Counted} (t : RowFits o w m k 0 1) (mp : ClassMap map k)
+    (h : MapWritten o o₁ map) (p : Put w w₁ setsAt s) (a : RowsAnswer o₁ w₁ m k o₂ w₂ r) where
   sets-of : (e : Re) → DescribedBy e w m map finals → SetsOf e w₁ m k
   sets-of e d = record {
     small = d .small;
@@ -83,7 +83,7 @@ module _ (finals : ℕ) {o w m map : List ℕ} {k s : ℕ} {o₁ w₁ o₂ w₂ 
   }
 
   -- o₃: with the head and the marks of the n sets
-  module _ {o₃ : List ℕ} {n : ℕ} (y : r ≡ Few n) (v : Stated o₂ o₃ (setOf w₂) n k finals) where
+  module _ {o₃ : List ℕ} {n : ℕ} (y : r ≡ Few n) (v : Stated o₂ o₃ (reachedSet w₂) n k finals) where
     filled : RowsCase o₁ w₁ m k o₂ w₂ (Few n)
     filled = subst (RowsCase o₁ w₁ m k o₂ w₂) y (a .rows)
 
@@ -107,7 +107,7 @@ module _ (finals : ℕ) {o w m map : List ℕ} {k s : ℕ} {o₁ w₁ o₂ w₂ 
     }
 
     module _ (e : Re) (d : DescribedBy e w m map finals) where
-      rows : Rows e k (setAt m) (setOf w₂) (cellAt o₂) n (n * k)
+      rows : ReachedRows e k (setAt m) (reachedSet w₂) (cellAt o₂) n (n * k)
       rows = filled .2 e (sets-of e d)
 
       sound : Sound o₃
@@ -120,23 +120,23 @@ module _ (finals : ℕ) {o w m map : List ℕ} {k s : ℕ} {o₁ w₁ o₂ w₂ 
         classes = λ i l g. (let z : i ≡ classesAt + (i - classesAt) = omega arith in
             rw (v .count, z, class (i - classesAt) (omega arith)) (mp .below (i - classesAt) (omega arith)));
         marks = λ i l g. (let z : i ≡ marksAt + (i - marksAt) = omega arith in
-            rw (z, v .marks (i - marksAt) (omega (arith, v .states))) (mark-small (eqb (bitAnd (setOf w₂ (i - marksAt)) finals) 0)));
+            rw (z, v .marks (i - marksAt) (omega (arith, v .states))) (mark-small (eqb (bitAnd (reachedSet w₂ (i - marksAt)) finals) 0)));
         marks-off = λ i l g. omega (arith, from-start i (omega arith) (inr (omega (arith, v .states))) (inl l), h .rest i (omega arith) (omega arith));
         cells = λ i l g. (let z : i ≡ cellsAt + (i - cellsAt) = omega arith in
             rw (z, cell (i - cellsAt), v .states) (rows .numbered .below (i - cellsAt) (omega (arith, used))));
         cells-off = λ i l g. omega (arith, from-start i (omega arith) (inr (omega (arith, filled .0))) (inr (omega (arith, used))), h .rest i l (omega arith));
       }
 
-      covers : Covers e (machine o₃) (setOf w₂)
+      covers : Covers e (machine o₃) (reachedSet w₂)
       unfolding nextOf move accepting
       covers = record {
         start = rows .begins;
         moves = λ q b l g.
             (let c = getD map b 0 in
             rw (v .count, class b g, cell (q * k + c)) (rows-leads rows q c (mp .below b g) (flat-in n k q c (rw (v .states) at l) (mp .below b g)))
-            ∙ ap (bitAnd (follows e (setOf w₂ q))) (d .masks b g));
-        marks = λ q l. ap (λ (i : ℕ). eqb i 1) (v .marks q (rw (v .states) at l) ∙ ap (λ (i : ℕ). markBy i (setOf w₂ q)) (d .ends))
-            ∙ mark-test (eqb (bitAnd (setOf w₂ q) (final e)) 0);
+            ∙ ap (bitAnd (follows e (reachedSet w₂ q))) (d .masks b g));
+        marks = λ q l. ap (λ (i : ℕ). eqb i 1) (v .marks q (rw (v .states) at l) ∙ ap (λ (i : ℕ). markBy i (reachedSet w₂ q)) (d .ends))
+            ∙ mark-test (eqb (bitAnd (reachedSet w₂ q) (final e)) 0);
       }
 
     -- the image is made
@@ -146,5 +146,5 @@ module _ (finals : ℕ) {o w m map : List ℕ} {k s : ℕ} {o₁ w₁ o₂ w₂ 
       words = words-tail;
       made = λ e d. (let s = sound e d in
           let closed = sound-closed o₃ s in
-          (s, covers-recognises e (machine o₃) (setOf w₂) closed (covers e d), covers-all e (machine o₃) (setOf w₂) closed (covers e d) (s .few-states)));
+          (s, covers-recognises e (machine o₃) (reachedSet w₂) closed (covers e d), covers-all e (machine o₃) (reachedSet w₂) closed (covers e d) (s .few-states)));
     }

@@ -3,14 +3,14 @@ ghost use mathlib.Core.Path.{_≡_};
 ghost use Prim.Native.Nat.{_+_, _-_, _*_, _≤_};
 ghost use lib.ListN.{length};
 ghost use Rattle.scope.specs.Limits.{classLimit, stateLimit, marksAt, roomBytes, setWords};
-ghost use Rattle.slices.specs.Parts.{Stored};
-ghost use Rattle.sets.specs.Value.{value};
+ghost use Rattle.buffers.specs.Stored.{Stored};
+ghost use Rattle.sets.specs.Value.{setValue};
 ghost use Rattle.sets.specs.Layout.{setsAt};
-ghost use Rattle.seats.specs.Layout.{setOf};
-ghost use Rattle.reach.specs.Reach.{Fits};
-ghost use Rattle.determinise.specs.Image.{markBy, Begun, Stated, Mapped, ImageAnswer};
+ghost use Rattle.seats.specs.SeatLayout.{reachedSet};
+ghost use Rattle.reach.specs.Reach.{RowFits};
+ghost use Rattle.determinise.specs.Image.{markBy, MapWritten, Stated, ClassMap, ImageAnswer};
 use crate::Built;
-use classes::Counted;
+use byte_classes::Counted;
 use scope::Machine;
 use sets::Set;
 use sets::layout::SETS_AT;
@@ -18,15 +18,15 @@ use sets::layout::SETS_AT;
 // Writes the classes, and zeros around them.
 fn write_map(image: &mut [u8], map: [u8; Machine::BYTES])
     requires { ⌜ roomBytes ≤ length (now image) ⌝ }
-    ensures { λ _. ⌜ Begun (now (image .entry)) (now (image .exit)) map ⌝ }
+    ensures { λ _. ⌜ MapWritten (now (image .entry)) (now (image .exit)) map ⌝ }
 {
-    slices::fill(image, 0, Machine::ROOM, 0);
-    slices::write_classes(image, &map);
+    buffers::fill(image, 0, Machine::ROOM, 0);
+    buffers::write_classes(image, &map);
 }
 
 // The mark of a set: 1 if it has a final position, else 0.
 fn mark(s: Set, finals: Set) -> u8
-    ensures { λ r. ⌜ r ≡ markBy (value (finals .words)) (value (s .words)) ⌝ }
+    ensures { λ r. ⌜ r ≡ markBy (setValue (finals .words)) (setValue (s .words)) ⌝ }
 {
     if s.common(finals).same(Set::none()) {
         0
@@ -38,7 +38,7 @@ fn mark(s: Set, finals: Set) -> u8
 // Writes the marks of the n reached sets.
 fn write_marks(image: &mut [u8], words: &[u64], n: usize, finals: Set)
     requires { ⌜ (n ≤ stateLimit) × (roomBytes ≤ length (now image)) × ((setsAt + stateLimit) * setWords ≤ length (now words)) ⌝ }
-    ensures { λ _. ⌜ Stored (now (image .entry)) (now (image .exit)) marksAt (marksAt + n) (λ i. markBy (value (finals .words)) (setOf (now (words .entry)) (i - marksAt))) ⌝ }
+    ensures { λ _. ⌜ Stored (now (image .entry)) (now (image .exit)) marksAt (marksAt + n) (λ i. markBy (setValue (finals .words)) (reachedSet (now (words .entry)) (i - marksAt))) ⌝ }
 {
     let mut i = Machine::MARKS_AT;
     while i < Machine::MARKS_AT + n {
@@ -50,7 +50,7 @@ fn write_marks(image: &mut [u8], words: &[u64], n: usize, finals: Set)
 // Writes how many reached sets and classes there are, and the marks of the sets.
 fn write_states(image: &mut [u8], words: &[u64], n: usize, k: usize, finals: Set)
     requires { ⌜ (n ≤ stateLimit) × (k ≤ classLimit) × (roomBytes ≤ length (now image)) × ((setsAt + stateLimit) * setWords ≤ length (now words)) ⌝ }
-    ensures { λ _. ⌜ Stated (now (image .entry)) (now (image .exit)) (setOf (now (words .entry))) n k (value (finals .words)) ⌝ }
+    ensures { λ _. ⌜ Stated (now (image .entry)) (now (image .exit)) (reachedSet (now (words .entry))) n k (setValue (finals .words)) ⌝ }
 {
     room::write_head(
         image,
@@ -71,9 +71,9 @@ pub fn determinise(
     k: usize,
     finals: Set,
 ) -> Built
-    requires { ⌜ Fits (now image) (now words) (now masks) k 0 1 ⌝ }
-    requires { ⌜ Mapped map k ⌝ }
-    ensures { λ r. ⌜ ImageAnswer (now (image .entry)) (now (words .entry)) (now (masks .entry)) map (value (finals .words)) (now (image .exit)) (now (words .exit)) r ⌝ }
+    requires { ⌜ RowFits (now image) (now words) (now masks) k 0 1 ⌝ }
+    requires { ⌜ ClassMap map k ⌝ }
+    ensures { λ r. ⌜ ImageAnswer (now (image .entry)) (now (words .entry)) (now (masks .entry)) map (setValue (finals .words)) (now (image .exit)) (now (words .exit)) r ⌝ }
 {
     write_map(image, map);
     sets::store(words, SETS_AT, Set::one(0));

@@ -3,12 +3,12 @@
 ghost use mathlib.Core.Path.{_≡_};
 ghost use Prim.Native.Nat.{_≤_};
 ghost use lib.Bits.{bitOr};
-ghost use Rattle.scope.specs.Bits.{given};
-ghost use Rattle.scope.specs.Buffers.{Scratch};
+ghost use Rattle.scope.specs.Positions.Bits.{given};
+ghost use Rattle.scope.specs.Operations.Buffers.{Scratch};
 ghost use Rattle.scope.specs.Limits.{positionLimit};
-ghost use Rattle.sets.specs.Value.{value};
+ghost use Rattle.sets.specs.Value.{setValue};
 ghost use Rattle.determinise.specs.Build.{Builds};
-use classes::Counted;
+use byte_classes::Counted;
 use sets::Set;
 use sets::layout::IMAGE_AT;
 
@@ -23,7 +23,7 @@ pub enum Built {
 
 // The positions of Last, and the state 0 if the expression is nullable.
 fn finals(last: Set, null: bool) -> Set
-    ensures { λ r. ⌜ value (r .words) ≡ bitOr (value (last .words)) (given null 1) ⌝ }
+    ensures { λ r. ⌜ setValue (r .words) ≡ bitOr (setValue (last .words)) (given null 1) ⌝ }
 {
     if null { last.with(0) } else { last }
 }
@@ -31,17 +31,17 @@ fn finals(last: Set, null: bool) -> Set
 // Groups the byte values, determinises, and writes a sound room image into the scratch.
 pub fn build(bytes: &mut [u8], words: &mut [u64], count: usize, last: Set, null: bool) -> Built
     requires { ⌜ (count ≤ positionLimit) × Scratch (now bytes) (now words) ⌝ }
-    ensures { λ r. ⌜ Builds (now (bytes .entry)) (now (words .entry)) count (value (last .words)) null (now (bytes .exit)) (now (words .exit)) r ⌝ }
+    ensures { λ r. ⌜ Builds (now (bytes .entry)) (now (words .entry)) count (setValue (last .words)) null (now (bytes .exit)) (now (words .exit)) r ⌝ }
 {
-    let found = runs::find(bytes, count);
+    let found = byte_runs::find(bytes, count);
     let ends = found.last;
     let runs = found.count;
-    let groups = classes::group::group(bytes, count, &ends, runs);
+    let groups = byte_classes::group::group(bytes, count, &ends, runs);
     let counted = groups.answer;
     match counted {
         Counted::Few(k) => {
             let map = groups.map;
-            let masks = classes::masks::class_masks(bytes, count, &ends, runs, map);
+            let masks = byte_classes::masks::class_masks(bytes, count, &ends, runs, map);
             image::determinise(
                 &mut bytes[IMAGE_AT..],
                 words,

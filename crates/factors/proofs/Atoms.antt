@@ -9,22 +9,22 @@ use mathlib.Core.List.{List}
 use native.Mathlib.Decide.{ℕ-discrete}
 use native.Mathlib.Omega.{arith}
 use Rattle.scope.specs.Bytes.{byte}
-use Rattle.scope.specs.Grammar.{escapable, Single, Level, atoms, Reads, single, no-byte, no-word, in-group}
+use Rattle.scope.specs.Text.Grammar.{escapable, Single, Level, atoms, Reads, single, no-byte, no-word, in-group}
 use Rattle.scope.specs.Limits.{positionLimit}
-use Rattle.scope.specs.Tree.{Leaf, Tree, nothing, empty, position, setOf, expr}
-use Rattle.scope.proofs.Grammar.{single-on, reads-on, single-back}
-use Rattle.shapes.specs.declared.Part.{Part}
-use Rattle.leaves.specs.Parts.{Backslash, Some, Took}
-use Rattle.factors.specs.Tails.{Whole}
-use Rattle.shapes.specs.Shapes.{Alone, Blank}
-use Rattle.factors.specs.Answer.{Ready, Found, Answer}
-use Rattle.factors.proofs.Grammar.{reads-in}
-use Rattle.leaves.proofs.Grammar.{single-in}
-use Rattle.leaves.proofs.Classes.{some}
+use Rattle.scope.specs.Text.Tree.{Leaf, Tree, nothing, empty, position, setOf, expr}
+use Rattle.scope.proofs.Text.Grammar.{single-on, reads-on, single-back}
+use Rattle.fragments.specs.declared.Fragment.{Fragment}
+use Rattle.leaves.specs.ReadAt.{Backslash, Some, Took}
+use Rattle.factors.specs.Tails.{WholeLevel}
+use Rattle.fragments.specs.Shapes.{Alone, Blank}
+use Rattle.factors.specs.Answer.{Readable, ReadTree, Answer}
+use Rattle.factors.proofs.ReadsIn.{reads-in}
+use Rattle.leaves.proofs.ByteByByte.{single-in}
+use Rattle.leaves.proofs.ClassItems.{some}
 use Rattle.factors.proofs.Rights.{right-alone, right-empty, right-nothing}
 
 -- one thing that can be read tells how far every one goes
-pub answer : {l : Level} {s : List ℕ} {i k : ℕ} {y y′ w w′ : List ℕ} {g : Part} → Ready l k s i → ((j : ℕ) (t : Tree) → Whole l s i j t → Found t k y y′ w w′ g j) → Answer l s i k y y′ w w′ g
+pub answer : {l : Level} {s : List ℕ} {i k : ℕ} {y y′ w w′ : List ℕ} {g : Fragment} → Readable l k s i → ((j : ℕ) (t : Tree) → WholeLevel l s i j t → ReadTree t k y y′ w w′ g j) → Answer l s i k y y′ w w′ g
 answer p f =
     let e = f (p .end) (p .tree) (p .whole) .next in
     record { on = omega (arith, reads-on (p .whole .0)); inside = omega (arith, reads-in (p .whole .0)); says = f }
@@ -56,12 +56,12 @@ module _ {s : List ℕ} where
   behind : {i b c : ℕ} → Backslash s i b → b ≡ c → (c ≡ 256 → ⊥) → (byte s i ≡ 92) × (byte s (i + 1) ≡ c)
   behind {i} p e n = elim (ℕ-discrete (byte s i) 92) [ yes h ↦ (h, sym (p .yes h) ∙ e) | no h ↦ absurd (n (sym e ∙ p .no h)) ]
 
-  module _ {i k b : ℕ} (p : Ready atoms k s i) (q : Backslash s i b) where
-    pub leaf-empty : {y : List ℕ} {g : Part} → b ≡ 101 → Blank (i + 2) k true g → (w : List ℕ) → Answer atoms s i k y y w w g
+  module _ {i k b : ℕ} (p : Readable atoms k s i) (q : Backslash s i b) where
+    pub leaf-empty : {y : List ℕ} {g : Fragment} → b ≡ 101 → Blank (i + 2) k true g → (w : List ℕ) → Answer atoms s i k y y w w g
     unfolding expr
     leaf-empty e m w = answer p (λ j t r. let (h, d) = behind q e (λ z. omega arith) in let (o, u) = is-empty h d (r .0) in record { next = m .nexts ∙ o; right = rw u (right-empty m) })
 
-    pub leaf-nothing : {y : List ℕ} {g : Part} → b ≡ 48 → Blank (i + 2) k false g → (w : List ℕ) → Answer atoms s i k y y w w g
+    pub leaf-nothing : {y : List ℕ} {g : Fragment} → b ≡ 48 → Blank (i + 2) k false g → (w : List ℕ) → Answer atoms s i k y y w w g
     unfolding expr
     leaf-nothing e m w = answer p (λ j t r. let (h, d) = behind q e (λ z. omega arith) in let (o, u) = is-nothing h d (r .0) in record { next = m .nexts ∙ o; right = rw u (right-nothing m) })
 
@@ -73,6 +73,6 @@ module _ {s : List ℕ} where
       unfolding expr
       leaf-room = let (x, r, d) = is-single n q e z (p .whole .0) in omega (arith, rw d at (p .brief))
 
-      pub leaf-single : {y y′ : List ℕ} {r : ℕ} {g : Part} → Took Single setOf s i k y y′ r → Alone r k g → (w : List ℕ) → Answer atoms s i k y y′ w w g
+      pub leaf-single : {y y′ : List ℕ} {r : ℕ} {g : Fragment} → Took Single setOf s i k y y′ r → Alone r k g → (w : List ℕ) → Answer atoms s i k y y′ w w g
       unfolding expr
       leaf-single t m w = answer p (λ j u v. let (x, r, d) = is-single n q e z (v .0) in let (o, h) = t .says j x r in record { next = m .nexts ∙ o; right = rw d (right-alone h m) })

@@ -1,5 +1,5 @@
 -- The text, and what is right for an expression
-pub mod Grammar
+pub mod ReadsIn
 pub mod Rights
 -- What is read: a leaf, and the stars after an atom
 pub mod Atoms

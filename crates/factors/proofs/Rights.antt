@@ -10,20 +10,20 @@ use native.Mathlib.Nat.{add-zero, add-assoc}
 use native.Mathlib.Omega.{arith}
 use lib.Bits.{bitOr, or-zero-r}
 use lib.Dec.{eqb}
-use Rattle.scope.specs.Bits.{has, given, null, first, last, follow, holders}
+use Rattle.scope.specs.Positions.Bits.{has, given, null, first, last, follow, holders}
 use Rattle.scope.specs.Bytes.{ByteSet}
-use Rattle.scope.specs.Re.{Re, none, eps, one, alt, cat, star, size}
-use Rattle.scope.proofs.Bits.{has-or, has-zero, has-pow, has-given, last-is}
-use Rattle.scope.proofs.Glushkov.{last-in}
-use Rattle.scope.proofs.Moves.{same-bits}
-use Rattle.scope.proofs.Tests.{which, same-test, equals}
-use Rattle.scope.proofs.Buffers.{all-kept, tail-then}
-use Rattle.sets.specs.Value.{value, setAt}
-use Rattle.shapes.specs.declared.Part.{Part}
+use Rattle.scope.specs.Text.Re.{Re, none, eps, one, alt, cat, star, size}
+use Rattle.scope.proofs.Positions.Bits.{has-or, has-zero, has-pow, has-given, last-is}
+use Rattle.scope.proofs.Positions.Glushkov.{last-in}
+use Rattle.scope.proofs.Positions.Moves.{same-bits}
+use Rattle.scope.proofs.Counting.Tests.{which, same-test, equals}
+use Rattle.scope.proofs.Operations.Buffers.{all-kept, tail-then}
+use Rattle.sets.specs.Value.{setValue, setAt}
+use Rattle.fragments.specs.declared.Fragment.{Fragment}
 use Rattle.sets.specs.Layout.{byteSets, held, wordSets}
-use Rattle.leaves.specs.Held.{Marked}
-use Rattle.factors.specs.Right.{Follows, Holds, Right}
-use Rattle.shapes.specs.Shapes.{Linked, Alone, Blank, Beside, Either, Moved}
+use Rattle.leaves.specs.MarkedBytes.{Marked}
+use Rattle.factors.specs.Right.{FollowCame, BytesCame, Right}
+use Rattle.fragments.specs.Shapes.{Linked, Alone, Blank, Beside, Either, Moved}
 
 -- unions regrouped
 join-assoc : (a b c : ℕ) → bitOr (bitOr a b) c ≡ bitOr a (bitOr b c)
@@ -36,7 +36,7 @@ joins : (a b c : List ℕ) (r s : ℕ → ℕ) → ((p : ℕ) → setAt b p ≡ 
 joins a b c r s x y p = y p ∙ ap (λ (z : ℕ). bitOr z (s p)) (x p) ∙ join-assoc (setAt a p) (r p) (s p)
 
 -- the bytes of both of two expressions
-holds-both : {e f : Re} (g : Re) {k n : ℕ} {a b c : List ℕ} → Holds e k a b → Holds f n b c → ((x : ℕ) → holders g k x ≡ bitOr (holders e k x) (holders f n x)) → Holds g k a c
+holds-both : {e f : Re} (g : Re) {k n : ℕ} {a b c : List ℕ} → BytesCame e k a b → BytesCame f n b c → ((x : ℕ) → holders g k x ≡ bitOr (holders e k x) (holders f n x)) → BytesCame g k a c
 holds-both {e} {f} g {k} {n} {a} x y h = record {
   kept = tail-then (x .kept) (y .kept);
   bits = λ q v l. y .bits q v l ∙ ap (λ (z : Bool). z || has (holders f n v) (q + 1)) (x .bits q v l) ∙ or-assoc (held a q v) (has (holders e k v) (q + 1)) (has (holders f n v) (q + 1))
@@ -44,7 +44,7 @@ holds-both {e} {f} g {k} {n} {a} x y h = record {
 }
 
 -- the bytes of one position
-holds-one : {k : ℕ} {s : ByteSet} {m m′ : List ℕ} → Marked k s m m′ → Holds (one s) k m m′
+holds-one : {k : ℕ} {s : ByteSet} {m m′ : List ℕ} → Marked k s m m′ → BytesCame (one s) k m m′
 unfolding holders
 holds-one {k} {s} {m} x = record { kept = x .kept; bits = λ q b h. x .bits q b h ∙ ap (λ (y : Bool). held m q b || y) (same q b) }
   where
@@ -56,22 +56,22 @@ holds-one {k} {s} {m} x = record { kept = x .kept; bits = λ q b h. x .bits q b 
 
 -- an expression without positions
 module _ {e : Re} {k : ℕ} where
-  follows-none : (m : List ℕ) → ((p : ℕ) → follow e k p ≡ 0) → Follows e k m m
+  follows-none : (m : List ℕ) → ((p : ℕ) → follow e k p ≡ 0) → FollowCame e k m m
   follows-none m h = record { kept = all-kept m wordSets; sets = λ p. sym (ap (bitOr (setAt m p)) (h p) ∙ or-zero-r (setAt m p)) }
 
-  holds-none : (m : List ℕ) → ((b : ℕ) → holders e k b ≡ 0) → Holds e k m m
+  holds-none : (m : List ℕ) → ((b : ℕ) → holders e k b ≡ 0) → BytesCame e k m m
   holds-none m h = record { kept = all-kept m byteSets; bits = λ q b l. sym (or-false (held m q b)) ∙ ap (λ (y : Bool). held m q b || y) (sym (ap (λ (n : ℕ). has n (q + 1)) (h b) ∙ has-zero (q + 1))) }
 
 -- ---- parts
 
-module _ {e : Re} {k : ℕ} {y y′ w w′ : List ℕ} {g : Part} where
-  pub right-within : Right e k y y′ w w′ g → (p : ℕ) → g .count < p → has (value (g .last .words)) p ≡ false
+module _ {e : Re} {k : ℕ} {y y′ w w′ : List ℕ} {g : Fragment} where
+  pub right-within : Right e k y y′ w w′ g → (p : ℕ) → g .count < p → has (setValue (g .last .words)) p ≡ false
   right-within r p h = ap (λ (n : ℕ). has n p) (r .lasts) ∙ elim (which (has (last e k) p)) [ inl t ↦ absurd (let i = last-in e k p (last-is e k p .sound t) in omega (arith, r .counts)) | inr t ↦ t ]
 
-  pub right-moved : {n : ℕ} {r : Part} → Right e k y y′ w w′ g → Moved g n (g .null) r → Right e k y y′ w w′ r
+  pub right-moved : {n : ℕ} {r : Fragment} → Right e k y y′ w w′ g → Moved g n (g .null) r → Right e k y y′ w w′ r
   right-moved x m = record { counts = cc; nulls = cc; firsts = cc; lasts = cc; follows = x .follows; holds = x .holds }
 
-  pub right-star : {n : ℕ} {w″ : List ℕ} {r : Part} → Right e k y y′ w w′ g → Linked (value (g .last .words)) (value (g .first .words)) w′ w″ → Moved g n true r → Right (star e) k y y′ w w″ r
+  pub right-star : {n : ℕ} {w″ : List ℕ} {r : Fragment} → Right e k y y′ w w′ g → Linked (setValue (g .last .words)) (setValue (g .first .words)) w′ w″ → Moved g n true r → Right (star e) k y y′ w w″ r
   unfolding null first last follow holders
   right-star {w″ = w″} x l m = record {
     counts = cc;
@@ -85,7 +85,7 @@ module _ {e : Re} {k : ℕ} {y y′ w w′ : List ℕ} {g : Part} where
     holds = record { kept = x .holds .kept; bits = x .holds .bits };
   }
 
-module _ {k n : ℕ} {y w : List ℕ} {r : Part} where
+module _ {k n : ℕ} {y w : List ℕ} {r : Fragment} where
   pub right-alone : {s : ByteSet} {y′ : List ℕ} → Marked k s y y′ → Alone n k r → Right (one s) k y y′ w w r
   unfolding null first last follow
   right-alone x a = record { counts = a .counts; nulls = a .nulls; firsts = a .firsts; lasts = a .lasts; follows = follows-none w (λ p. refl); holds = holds-one x }
@@ -98,7 +98,7 @@ module _ {k n : ℕ} {y w : List ℕ} {r : Part} where
   unfolding null first last follow holders
   right-nothing a = record { counts = a .counts ∙ sym (add-zero k); nulls = a .nulls; firsts = a .firsts; lasts = a .lasts; follows = follows-none w (λ p. refl); holds = holds-none y (λ b. refl) }
 
-module _ {e f : Re} {k : ℕ} {y y′ y″ w w′ w″ : List ℕ} {a b r : Part} (x : Right e k y y′ w w′ a) (z : Right f (a .count) y′ y″ w′ w″ b) where
+module _ {e f : Re} {k : ℕ} {y y′ y″ w w′ w″ : List ℕ} {a b r : Fragment} (x : Right e k y y′ w w′ a) (z : Right f (a .count) y′ y″ w′ w″ b) where
   pub right-either : Either a b r → Right (alt e f) k y y″ w w″ r
   unfolding null first last follow holders
   right-either m =
@@ -113,7 +113,7 @@ module _ {e f : Re} {k : ℕ} {y y′ y″ w w′ w″ : List ℕ} {a b r : Part
         holds = holds-both (alt e f) (x .holds) (v .holds) (λ n. refl);
       }
 
-  pub right-beside : {w‴ : List ℕ} → Linked (value (a .last .words)) (value (b .first .words)) w″ w‴ → Beside a b r → Right (cat e f) k y y″ w w‴ r
+  pub right-beside : {w‴ : List ℕ} → Linked (setValue (a .last .words)) (setValue (b .first .words)) w″ w‴ → Beside a b r → Right (cat e f) k y y″ w w‴ r
   unfolding null first last follow holders
   right-beside {w‴} l m =
       let c = x .counts in

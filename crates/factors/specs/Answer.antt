@@ -1,7 +1,7 @@
 -- What the readers are handed, and what they answer.
---   Ready l k s i: at i an l can be read whose positions fit after k others
+--   Readable l k s i: at i an l can be read whose positions fit after k others
 --   Fit s w g: the part g lies in the text, and its positions are those up to its count
---   Found t k y y′ w w′ g j: the part g is that of the tree t, which ends at j
+--   ReadTree t k y y′ w w′ g j: the part g is that of the tree t, which ends at j
 --   Answer l s i k y y′ w w′ g: g is the part of every l that can be read at i
 --   Going l s k y y′ w w′ g u j: g is a first part of the l with the tree u that ends at j
 --   Carried l s y w g y′ w′ g′: whatever g was a first part of, g′ is one of it, too
@@ -11,52 +11,52 @@ use mathlib.Core.Path.{_≡_}
 use mathlib.Core.Bool.{false}
 use mathlib.Core.List.{List}
 use lib.ListN.{length}
-use Rattle.scope.specs.Bits.{has}
+use Rattle.scope.specs.Positions.Bits.{has}
 use Rattle.scope.specs.Bytes.{byte}
-use Rattle.scope.specs.Grammar.{Level, factors}
+use Rattle.scope.specs.Text.Grammar.{Level, factors}
 use Rattle.scope.specs.Limits.{patternLimit, positionLimit}
-use Rattle.scope.specs.Re.{size}
-use Rattle.scope.specs.Tree.{Tree, expr}
-use Rattle.sets.specs.Value.{setBits, value}
-use Rattle.shapes.specs.declared.Part.{Part}
+use Rattle.scope.specs.Text.Re.{size}
+use Rattle.scope.specs.Text.Tree.{Tree, expr}
+use Rattle.sets.specs.Value.{setBits, setValue}
+use Rattle.fragments.specs.declared.Fragment.{Fragment}
 use Rattle.sets.specs.Layout.{wordSets}
-use Rattle.factors.specs.Tails.{Ends, Whole, Tail}
+use Rattle.factors.specs.Tails.{EndsLevel, WholeLevel, Tail}
 use Rattle.factors.specs.Right.{Right}
 
-pub record Ready (l : Level) (k : ℕ) (s : List ℕ) (i : ℕ) : Type 0 where
+pub record Readable (l : Level) (k : ℕ) (s : List ℕ) (i : ℕ) : Type 0 where
   pub short : length s ≤ patternLimit
   pub inside : i < length s
   pub end : ℕ
   pub tree : Tree
-  pub whole : Whole l s i end tree
+  pub whole : WholeLevel l s i end tree
   pub brief : k + size (expr tree) ≤ positionLimit
 
-pub record Fit (s w : List ℕ) (g : Part) : Type 0 where
+pub record Fit (s w : List ℕ) (g : Fragment) : Type 0 where
   pub short : length s ≤ patternLimit
   pub inside : g .next ≤ length s
   pub words : wordSets ≤ length w
   pub few : g .count < setBits
-  pub within : (p : ℕ) → g .count < p → has (value (g .last .words)) p ≡ false
+  pub within : (p : ℕ) → g .count < p → has (setValue (g .last .words)) p ≡ false
 
-pub record Found (t : Tree) (k : ℕ) (y y′ w w′ : List ℕ) (g : Part) (j : ℕ) : Type 0 where
+pub record ReadTree (t : Tree) (k : ℕ) (y y′ w w′ : List ℕ) (g : Fragment) (j : ℕ) : Type 0 where
   pub next : g .next ≡ j
   pub right : Right (expr t) k y y′ w w′ g
 
-pub record Answer (l : Level) (s : List ℕ) (i k : ℕ) (y y′ w w′ : List ℕ) (g : Part) : Type 0 where
+pub record Answer (l : Level) (s : List ℕ) (i k : ℕ) (y y′ w w′ : List ℕ) (g : Fragment) : Type 0 where
   pub on : i < g .next
   pub inside : g .next ≤ length s
-  pub says : (j : ℕ) (t : Tree) → Whole l s i j t → Found t k y y′ w w′ g j
+  pub says : (j : ℕ) (t : Tree) → WholeLevel l s i j t → ReadTree t k y y′ w w′ g j
 
-pub record Going (l : Level) (s : List ℕ) (k : ℕ) (y y′ w w′ : List ℕ) (g : Part) (u : Tree) (j : ℕ) : Type 0 where
+pub record Going (l : Level) (s : List ℕ) (k : ℕ) (y y′ w w′ : List ℕ) (g : Fragment) (u : Tree) (j : ℕ) : Type 0 where
   pub tree : Tree
   pub right : Right (expr tree) k y y′ w w′ g
   pub tail : Tail s l tree (g .next) u j
 
-pub record Carried (l : Level) (s y w : List ℕ) (g : Part) (y′ w′ : List ℕ) (g′ : Part) : Type 0 where
-  pub says : (k : ℕ) (y₀ w₀ : List ℕ) (u : Tree) (j : ℕ) → Ends l (byte s j) → Going l s k y₀ y w₀ w g u j → Going l s k y₀ y′ w₀ w′ g′ u j
+pub record Carried (l : Level) (s y w : List ℕ) (g : Fragment) (y′ w′ : List ℕ) (g′ : Fragment) : Type 0 where
+  pub says : (k : ℕ) (y₀ w₀ : List ℕ) (u : Tree) (j : ℕ) → EndsLevel l (byte s j) → Going l s k y₀ y w₀ w g u j → Going l s k y₀ y′ w₀ w′ g′ u j
 
-pub record Starred (s w : List ℕ) (g : Part) (w′ : List ℕ) (g′ : Part) : Type 0 where
+pub record Starred (s w : List ℕ) (g : Fragment) (w′ : List ℕ) (g′ : Fragment) : Type 0 where
   pub on : g .next ≤ g′ .next
   pub inside : g′ .next ≤ length s
-  pub ends : Ends factors (byte s (g′ .next))
+  pub ends : EndsLevel factors (byte s (g′ .next))
   pub says : (y : List ℕ) → Carried factors s y w g y w′ g′

@@ -1,7 +1,7 @@
 -- A reading of the grammar from its first part on. The grammar recurses on the left, a reader goes from left to right: it has read a part, and a tail is left.
---   closes, stops: the bytes that end an expression, and those that end a branch; the end of the text is one of them
---   Ends l b: an l does not go on with the byte b
---   Whole l s i j t: an l, with the tree t, that does not go on
+--   closesExpr, stops: the bytes that end an expression, and those that end a branch; the end of the text is one of them
+--   EndsLevel l b: an l does not go on with the byte b
+--   WholeLevel l s i j t: an l, with the tree t, that does not go on
 --   Tail s l t j u k: the tree t was read up to j; what is left makes it the l with the tree u, up to k
 use Prim.Native.Nat.{ℕ, _+_}
 use Prim.Native.Char.{code}
@@ -10,28 +10,28 @@ use mathlib.Core.Bool.{true, _||_}
 use mathlib.Core.List.{List}
 use lib.Dec.{eqb}
 use Rattle.scope.specs.Bytes.{ByteSet, byte}
-use Rattle.scope.specs.Grammar.{Level, atoms, factors, branches, exprs, Reads}
+use Rattle.scope.specs.Text.Grammar.{Level, atoms, factors, branches, exprs, Reads}
 use Rattle.scope.specs.Limits.{byteValues}
-use Rattle.scope.specs.Tree.{Tree, starred, beside, either}
+use Rattle.scope.specs.Text.Tree.{Tree, starred, beside, either}
 
-unfoldable pub closes : ByteSet
-closes b = eqb b (code ")") || eqb b byteValues
+unfoldable pub closesExpr : ByteSet
+closesExpr b = eqb b (code ")") || eqb b byteValues
 
 unfoldable pub stops : ByteSet
-unfolding closes
-stops b = closes b || eqb b (code "|")
+unfolding closesExpr
+stops b = closesExpr b || eqb b (code "|")
 
-abbrev pub Ends : Level → ℕ → Type 0
-Ends atoms b = Unit {0}
-Ends factors b = b ≡ code "*" → ⊥
-Ends branches b = stops b ≡ true
-Ends exprs b = closes b ≡ true
+abbrev pub EndsLevel : Level → ℕ → Type 0
+EndsLevel atoms b = Unit {0}
+EndsLevel factors b = b ≡ code "*" → ⊥
+EndsLevel branches b = stops b ≡ true
+EndsLevel exprs b = closesExpr b ≡ true
 
-abbrev pub Whole : Level → List ℕ → ℕ → ℕ → Tree → Type 0
-Whole l s i j t = Reads s l i j t × Ends l (byte s j)
+abbrev pub WholeLevel : Level → List ℕ → ℕ → ℕ → Tree → Type 0
+WholeLevel l s i j t = Reads s l i j t × EndsLevel l (byte s j)
 
 pub data Tail (s : List ℕ) : Level → Tree → ℕ → Tree → ℕ → Type 0 where
   done : {l : Level} {t : Tree} {j : ℕ} → Tail s l t j t j
   a-star : {t u : Tree} {j k : ℕ} → byte s j ≡ code "*" → Tail s factors (starred t) (j + 1) u k → Tail s factors t j u k
-  a-factor : {t u f : Tree} {j k m : ℕ} → Whole factors s j m f → Tail s branches (beside t f) m u k → Tail s branches t j u k
-  a-branch : {t u f : Tree} {j k m : ℕ} → byte s j ≡ code "|" → Whole branches s (j + 1) m f → Tail s exprs (either t f) m u k → Tail s exprs t j u k
+  a-factor : {t u f : Tree} {j k m : ℕ} → WholeLevel factors s j m f → Tail s branches (beside t f) m u k → Tail s branches t j u k
+  a-branch : {t u f : Tree} {j k m : ℕ} → byte s j ≡ code "|" → WholeLevel branches s (j + 1) m f → Tail s exprs (either t f) m u k → Tail s exprs t j u k

@@ -4,24 +4,24 @@ ghost use mathlib.Core.Path.{_≡_};
 ghost use Prim.Native.Nat.{ℕ, _≤_};
 ghost use lib.ListN.{length};
 ghost use Rattle.scope.specs.Bytes.{byte};
-ghost use Rattle.scope.specs.Grammar.{atoms};
+ghost use Rattle.scope.specs.Text.Grammar.{atoms};
 ghost use Rattle.sets.specs.Layout.{byteSets};
-ghost use Rattle.factors.specs.Answer.{Fit, Ready, Starred, Answer};
+ghost use Rattle.factors.specs.Answer.{Fit, Readable, Starred, Answer};
+use fragments::Fragment;
+use fragments::alone;
+use fragments::blank;
+use fragments::link;
+use fragments::moved;
 use leaves::single;
 use leaves::text::EMPTY;
 use leaves::text::NOTHING;
 use leaves::text::STAR;
 use leaves::text::byte_at;
 use leaves::text::escaped;
-use shapes::Part;
-use shapes::alone;
-use shapes::blank;
-use shapes::link;
-use shapes::moved;
 
 // An atom other than one in parentheses.
-pub fn leaf(text: &[u8], at: usize, count: usize, bytes: &mut [u8]) -> Part
-    requires { ⌜ Ready atoms count (now text) at × (byte (now text) at ≡ 40 → ⊥) ⌝ }
+pub fn leaf(text: &[u8], at: usize, count: usize, bytes: &mut [u8]) -> Fragment
+    requires { ⌜ Readable atoms count (now text) at × (byte (now text) at ≡ 40 → ⊥) ⌝ }
     requires { ⌜ byteSets ≤ length (now bytes) ⌝ }
     ensures { λ r. ⌜ ((w : List ℕ) → Answer atoms (now (text .entry)) at count (now (bytes .entry)) (now (bytes .exit)) w w r) ⌝ }
 {
@@ -36,7 +36,7 @@ pub fn leaf(text: &[u8], at: usize, count: usize, bytes: &mut [u8]) -> Part
 }
 
 // The part with the stars after it.
-pub fn stars(text: &[u8], part: Part, words: &mut [u64]) -> Part
+pub fn stars(text: &[u8], part: Fragment, words: &mut [u64]) -> Fragment
     requires { ⌜ Fit (now text) (now words) part ⌝ }
     ensures { λ r. ⌜ Starred (now (text .entry)) (now (words .entry)) part (now (words .exit)) r ⌝ }
 {

@@ -2,7 +2,7 @@
 -- as may be, and its positions, each added at the end of what was noted before. By induction on the derivation, as in scope's `Drives`; here each step is
 -- decided twice by the byte's test or value, for the state and for the notes.
 --   notesTo s i: what is noted after the first i bytes of s
---   Noted, legal-notes: what is noted at the end of a legal text
+--   NotedAll, legal-notes: what is noted at the end of a legal text
 use Prim.Native.Nat.{ℕ, zero, suc, _+_, _*_, _<_}
 use mathlib.Core.Path.{_≡_, refl, _∙_}
 use mathlib.Core.List.{List, [], _∷_, _++_, append-assoc, append-nil}
@@ -12,12 +12,12 @@ use lib.Dec.{eqb}
 use lib.ListN.{length}
 use Rattle.scope.specs.Limits.{nestLimit}
 use Rattle.scope.specs.Bytes.{byte}
-use Rattle.scope.specs.Tree.{Item, lone, range, Leaf, Tree, onlyIf, fallingItems, fallingLeaf, falling, opened, places}
-use Rattle.scope.specs.Grammar.{literal, escapable, classLiteral, hex, Escape, plain, coded, ClassByte, bare, escaped, OneItem, one-byte, low-high, Items, last-item, more-items, Single, a-dot, a-literal, an-escape, a-class, Level, Reads, single, no-byte, no-word, in-group, one-atom, one-star, one-factor, next-factor, one-branch, next-branch}
-use Rattle.scope.specs.Judge.{Pattern}
-use Rattle.scope.proofs.Tests.{below}
-use Rattle.scope.specs.Modes.{Piece, atom, low, high, Mode, await, done, back, code, digit, State, stuck, at, after, bareIn, begins, again, ends, next, runTo}
-use Rattle.reading.specs.Notes.{Marks, since, started, asRead, nested, begun, dashed, marked, note, blank, Notes}
+use Rattle.scope.specs.Text.Tree.{Item, lone, range, Leaf, Tree, onlyIf, fallingItems, fallingLeaf, falling, opened, places}
+use Rattle.scope.specs.Text.Grammar.{literal, escapable, classLiteral, hex, Escape, plain, coded, ClassByte, bare, escaped, OneItem, one-byte, low-high, Items, last-item, more-items, Single, a-dot, a-literal, an-escape, a-class, Level, Reads, single, no-byte, no-word, in-group, one-atom, one-star, one-factor, next-factor, one-branch, next-branch}
+use Rattle.scope.specs.Text.Judge.{Pattern}
+use Rattle.scope.proofs.Counting.Tests.{below}
+use Rattle.scope.specs.Text.Modes.{Piece, atom, low, high, Mode, await, done, back, code, digit, State, stuck, at, afterAtom, bareIn, begins, again, ends, next, runTo}
+use Rattle.judge_state.specs.Notes.{Marks, since, started, asRead, nested, begun, dashed, marked, note, blank, Notes}
 use Rattle.judge.proofs.Nested.{inside, inside-opened}
 
 -- what is noted after the first i bytes of s
@@ -26,28 +26,28 @@ notesTo s zero = blank
 notesTo s (suc i) = note (runTo s i) (byte s i) i (notesTo s i)
 
 -- after i bytes the machine is in the mode m, with n open parentheses, and k is noted
-record In (s : List ℕ) (i : ℕ) (m : Mode) (n : ℕ) (k : Marks) : Type 0 where
+record InModeNoted (s : List ℕ) (i : ℕ) (m : Mode) (n : ℕ) (k : Marks) : Type 0 where
   state : runTo s i ≡ at m n
   marks : notesTo s i .marks ≡ k
 
 -- at i the piece p may begin
-record Awaits (s : List ℕ) (i : ℕ) (p : Piece) (n : ℕ) (k : Marks) : Type 0 where
+record AwaitsNoted (s : List ℕ) (i : ℕ) (p : Piece) (n : ℕ) (k : Marks) : Type 0 where
   other : State
   others : Marks
   state : runTo s (suc i) ≡ begins p n (byte s i) other
   marks : notesTo s (suc i) .marks ≡ begun p n (byte s i) i k others
 
 -- k′ has what k has, and then f, o and p
-record Grown (k k′ : Marks) (f o p : List ℕ) : Type 0 where
+record NotesGrown (k k′ : Marks) (f o p : List ℕ) : Type 0 where
   falls : k′ .falls ≡ k .falls ++ f
   opens : k′ .opens ≡ k .opens ++ o
   firsts : k′ .firsts ≡ k .firsts ++ p
 
 -- an atom ends at j, and f, o and p were noted since k
-record Ends (s : List ℕ) (j n : ℕ) (k : Marks) (f o p : List ℕ) : Type 0 where
+record AtomEnds (s : List ℕ) (j n : ℕ) (k : Marks) (f o p : List ℕ) : Type 0 where
   marks : Marks
-  ends : In s j after n marks
-  grown : Grown k marks f o p
+  ends : InModeNoted s j afterAtom n marks
+  grown : NotesGrown k marks f o p
 
 items-cons : (x : Item) (l : List Item) → fallingItems (x ∷ l) ≡ fallingItems (x ∷ []) ++ fallingItems l
 unfolding fallingItems
@@ -57,89 +57,89 @@ items-cons (range a b i) l = rw append-nil
 -- after an item another may follow, or the class ends, and f was noted since k
 record Items-end (s : List ℕ) (j n : ℕ) (k : Marks) (f : List ℕ) : Type 0 where
   marks : Marks
-  goes : Awaits s j low n marks
-  closes : byte s j ≡ 93 → In s (j + 1) after n marks
-  grown : Grown k marks f [] []
+  goes : AwaitsNoted s j low n marks
+  closes : byte s j ≡ 93 → InModeNoted s (j + 1) afterAtom n marks
+  grown : NotesGrown k marks f [] []
 
-grown-on : {k k′ k″ : Marks} {f f′ o o′ p p′ : List ℕ} → Grown k k′ f o p → Grown k′ k″ f′ o′ p′ → Grown k k″ (f ++ f′) (o ++ o′) (p ++ p′)
+grown-on : {k k′ k″ : Marks} {f f′ o o′ p p′ : List ℕ} → NotesGrown k k′ f o p → NotesGrown k′ k″ f′ o′ p′ → NotesGrown k k″ (f ++ f′) (o ++ o′) (p ++ p′)
 grown-on a b =
     record { falls = rw (b .falls, a .falls, append-assoc); opens = rw (b .opens, a .opens, append-assoc); firsts = rw (b .firsts, a .firsts, append-assoc) }
 
 -- nothing was noted
-none-grown : {k k′ : Marks} → k′ .falls ≡ k .falls → k′ .opens ≡ k .opens → k′ .firsts ≡ k .firsts → Grown k k′ [] [] []
+none-grown : {k k′ : Marks} → k′ .falls ≡ k .falls → k′ .opens ≡ k .opens → k′ .firsts ≡ k .firsts → NotesGrown k k′ [] [] []
 none-grown a b c = record { falls = rw (append-nil, a); opens = rw (append-nil, b); firsts = rw (append-nil, c) }
 
 -- a position was noted
-first-grown : {k k′ : Marks} {i : ℕ} → k′ .falls ≡ k .falls → k′ .opens ≡ k .opens → k′ .firsts ≡ k .firsts ++ i ∷ [] → Grown k k′ [] [] (i ∷ [])
+first-grown : {k k′ : Marks} {i : ℕ} → k′ .falls ≡ k .falls → k′ .opens ≡ k .opens → k′ .firsts ≡ k .firsts ++ i ∷ [] → NotesGrown k k′ [] [] (i ∷ [])
 first-grown a b c = record { falls = rw (append-nil, a); opens = rw (append-nil, b); firsts = c }
 
 -- a parenthesis opened
-group-grown : (k : Marks) (n i : ℕ) → Grown k (nested n i (since i k)) [] (onlyIf (eqb n nestLimit) i) []
+group-grown : (k : Marks) (n i : ℕ) → NotesGrown k (nested n i (since i k)) [] (onlyIf (eqb n nestLimit) i) []
 group-grown k n i = record { falls = rw append-nil; opens = refl; firsts = rw append-nil }
 
 -- what was noted before
-since-ends : {s : List ℕ} {j n : ℕ} {k k′ : Marks} {f f′ o o′ p p′ : List ℕ} → Grown k k′ f o p → Ends s j n k′ f′ o′ p′ → Ends s j n k (f ++ f′) (o ++ o′) (p ++ p′)
+since-ends : {s : List ℕ} {j n : ℕ} {k k′ : Marks} {f f′ o o′ p p′ : List ℕ} → NotesGrown k k′ f o p → AtomEnds s j n k′ f′ o′ p′ → AtomEnds s j n k (f ++ f′) (o ++ o′) (p ++ p′)
 since-ends g e = record { marks = e .marks; ends = e .ends; grown = grown-on g (e .grown) }
 
 -- a byte more, that notes nothing
-ends-with : {s : List ℕ} {j j′ n n′ : ℕ} {k : Marks} {f o p : List ℕ} → ((x : Marks) → In s j after n x → In s j′ after n′ x) → Ends s j n k f o p → Ends s j′ n′ k f o p
+ends-with : {s : List ℕ} {j j′ n n′ : ℕ} {k : Marks} {f o p : List ℕ} → ((x : Marks) → InModeNoted s j afterAtom n x → InModeNoted s j′ afterAtom n′ x) → AtomEnds s j n k f o p → AtomEnds s j′ n′ k f o p
 ends-with f e = record { marks = e .marks; ends = f (e .marks) (e .ends); grown = e .grown }
 
 module _ {s : List ℕ} where
   -- one step
-  on : {i n n′ : ℕ} {m m′ : Mode} {k k′ : Marks} → In s i m n k → next m n (byte s i) ≡ at m′ n′ → ((h : ℕ) → marked m n (byte s i) i h k ≡ k′) → In s (i + 1) m′ n′ k′
+  on : {i n n′ : ℕ} {m m′ : Mode} {k k′ : Marks} → InModeNoted s i m n k → next m n (byte s i) ≡ at m′ n′ → ((h : ℕ) → marked m n (byte s i) i h k ≡ k′) → InModeNoted s (i + 1) m′ n′ k′
   on {i} x e d = record { state = rw (add-one, x .state) e; marks = rw (add-one, x .state, x .marks) (d (notesTo s i .half)) }
 
   -- the same, j bytes after i
-  further : {n : ℕ} {m m′ : Mode} {k k′ : Marks} (i j : ℕ) → In s (i + j) m n k → next m n (byte s (i + j)) ≡ at m′ n → ((h : ℕ) → marked m n (byte s (i + j)) (i + j) h k ≡ k′)
-      → In s (i + suc j) m′ n k′
+  further : {n : ℕ} {m m′ : Mode} {k k′ : Marks} (i j : ℕ) → InModeNoted s (i + j) m n k → next m n (byte s (i + j)) ≡ at m′ n → ((h : ℕ) → marked m n (byte s (i + j)) (i + j) h k ≡ k′)
+      → InModeNoted s (i + suc j) m′ n k′
   further i j x e d = record { state = rw (add-suc, x .state) e; marks = rw (add-suc, x .state, x .marks) (d (notesTo s (i + j) .half)) }
 
   -- a piece may begin where it is awaited, and where one is done that it may follow
-  awaited : {i n : ℕ} {p : Piece} {k : Marks} → In s i (await p) n k → Awaits s i p n k
+  awaited : {i n : ℕ} {p : Piece} {k : Marks} → InModeNoted s i (await p) n k → AwaitsNoted s i p n k
   awaited {k = k} x = record { other = stuck; others = k; state = rw (x .state) refl; marks = rw (x .state, x .marks) refl }
 
-  more : {i n : ℕ} {p : Piece} {k : Marks} → In s i (done p) n k → Awaits s i (again p) n k
+  more : {i n : ℕ} {p : Piece} {k : Marks} → InModeNoted s i (done p) n k → AwaitsNoted s i (again p) n k
   more {i} {n} {p} {k} x = record { other = ends p n (byte s i); others = dashed p (byte s i) i k; state = rw (x .state) refl; marks = rw (x .state, x .marks) refl }
 
   -- the byte with which it begins
-  taken : {i n n′ : ℕ} {p : Piece} {m : Mode} {k k′ : Marks} → Awaits s i p n k → ((x : State) → begins p n (byte s i) x ≡ at m n′) → ((x : Marks) → begun p n (byte s i) i k x ≡ k′)
-      → In s (i + 1) m n′ k′
+  taken : {i n n′ : ℕ} {p : Piece} {m : Mode} {k k′ : Marks} → AwaitsNoted s i p n k → ((x : State) → begins p n (byte s i) x ≡ at m n′) → ((x : Marks) → begun p n (byte s i) i k x ≡ k′)
+      → InModeNoted s (i + 1) m n′ k′
   taken a e d = record { state = rw (add-one, a .state) (e (a .other)); marks = rw (add-one, a .marks) (d (a .others)) }
 
-  to-back : {i n : ℕ} {p : Piece} {k : Marks} → Awaits s i p n k → byte s i ≡ 92 → In s (i + 1) (back p) n (started p i k)
+  to-back : {i n : ℕ} {p : Piece} {k : Marks} → AwaitsNoted s i p n k → byte s i ≡ 92 → InModeNoted s (i + 1) (back p) n (started p i k)
   unfolding literal classLiteral
   to-back {p = atom} a h = taken a (λ x. rw h refl) (λ x. rw h refl)
   to-back {p = low} a h = taken a (λ x. rw h refl) (λ x. rw h refl)
   to-back {p = high} a h = taken a (λ x. rw h refl) (λ x. rw h refl)
 
   -- the first digit is kept
-  first-digit : {n : ℕ} {p : Piece} {k : Marks} (i j : ℕ) → In s (i + j) (code p) n k → notesTo s (i + suc j) .half ≡ hex (byte s (i + j))
+  first-digit : {n : ℕ} {p : Piece} {k : Marks} (i j : ℕ) → InModeNoted s (i + j) (code p) n k → notesTo s (i + suc j) .half ≡ hex (byte s (i + j))
   first-digit i j x = rw (add-suc, x .state) refl
 
   -- and the second makes the byte of the two
-  second-digit : {h n : ℕ} {p : Piece} {k : Marks} (i j : ℕ) → In s (i + j) (digit p) n k → notesTo s (i + j) .half ≡ h → hex (byte s (i + j)) < 16
-      → In s (i + suc j) (done p) n (asRead p (h * 16 + hex (byte s (i + j))) k)
+  second-digit : {h n : ℕ} {p : Piece} {k : Marks} (i j : ℕ) → InModeNoted s (i + j) (digit p) n k → notesTo s (i + j) .half ≡ h → hex (byte s (i + j)) < 16
+      → InModeNoted s (i + suc j) (done p) n (asRead p (h * 16 + hex (byte s (i + j))) k)
   second-digit i j x e r = record { state = rw (add-suc, x .state, below _ 16 .full r) refl; marks = rw (add-suc, x .state, x .marks, e) refl }
 
-  code-drives : {n : ℕ} {p : Piece} {k : Marks} (i : ℕ) → In s (i + 2) (code p) n k → hex (byte s (i + 2)) < 16 → hex (byte s (i + 3)) < 16
-      → In s (i + 4) (done p) n (asRead p (hex (byte s (i + 2)) * 16 + hex (byte s (i + 3))) k)
+  code-drives : {n : ℕ} {p : Piece} {k : Marks} (i : ℕ) → InModeNoted s (i + 2) (code p) n k → hex (byte s (i + 2)) < 16 → hex (byte s (i + 3)) < 16
+      → InModeNoted s (i + 4) (done p) n (asRead p (hex (byte s (i + 2)) * 16 + hex (byte s (i + 3))) k)
   code-drives {p = p} i x l r = second-digit i 3 (further {m′ = digit p} i 2 x (rw (below _ 16 .full l) refl) (λ _. refl)) (first-digit i 2 x) r
 
-  escape-drives : {i j b n : ℕ} {p : Piece} {k : Marks} → Escape s i j b → Awaits s i p n k → In s j (done p) n (asRead p b (started p i k))
+  escape-drives : {i j b n : ℕ} {p : Piece} {k : Marks} → Escape s i j b → AwaitsNoted s i p n k → InModeNoted s j (done p) n (asRead p b (started p i k))
   unfolding escapable
   escape-drives (plain h e) a = further _ 1 (to-back a h) (rw e refl) (λ _. rw e refl)
   escape-drives (coded h e l r) a = code-drives _ (further _ 1 (to-back a h) (rw e refl) (λ _. rw e refl)) l r
 
-  byte-drives : {i j b n : ℕ} {p : Piece} {k : Marks} → bareIn p ≡ classLiteral → ClassByte s i j b → Awaits s i p n k → In s j (done p) n (asRead p b (started p i k))
+  byte-drives : {i j b n : ℕ} {p : Piece} {k : Marks} → bareIn p ≡ classLiteral → ClassByte s i j b → AwaitsNoted s i p n k → InModeNoted s j (done p) n (asRead p b (started p i k))
   byte-drives e (bare h) a = taken a (λ x. rw (e, h) refl) (λ x. rw (e, h) refl)
   byte-drives e (escaped c) a = escape-drives c a
 
-  to-dash : {j n : ℕ} {k : Marks} → In s j (done low) n k → byte s j ≡ 45 → In s (j + 1) (await high) n (since j k)
+  to-dash : {j n : ℕ} {k : Marks} → InModeNoted s j (done low) n k → byte s j ≡ 45 → InModeNoted s (j + 1) (await high) n (since j k)
   unfolding classLiteral
   to-dash x h = on x (rw h refl) (λ _. rw h refl)
 
-  item-drives : {i j n : ℕ} {x : Item} {k : Marks} → OneItem s i j x → Awaits s i low n k → Items-end s j n k (fallingItems (x ∷ []))
+  item-drives : {i j n : ℕ} {x : Item} {k : Marks} → OneItem s i j x → AwaitsNoted s i low n k → Items-end s j n k (fallingItems (x ∷ []))
   unfolding classLiteral fallingItems
   item-drives (one-byte c) a =
       let x = byte-drives refl c a in
@@ -148,21 +148,21 @@ module _ {s : List ℕ} where
       let x = byte-drives {n = n} {p = high} refl d (awaited (to-dash (byte-drives refl c a) h)) in
       record { marks = _; goes = more x; closes = λ h. on x (rw h refl) (λ _. rw h refl); grown = record { falls = rw append-nil; opens = rw append-nil; firsts = rw append-nil } }
 
-  class-drives : {i j n : ℕ} {l : List Item} {k : Marks} → Items s i j l → byte s j ≡ 93 → Awaits s i low n k → Ends s (j + 1) n k (fallingItems l) [] []
+  class-drives : {i j n : ℕ} {l : List Item} {k : Marks} → Items s i j l → byte s j ≡ 93 → AwaitsNoted s i low n k → AtomEnds s (j + 1) n k (fallingItems l) [] []
   unfolding fallingItems
   class-drives (last-item x) h a = let e = item-drives x a in record { marks = e .marks; ends = e .closes h; grown = e .grown }
   class-drives (more-items x l) h a = let e = item-drives x a in rw items-cons (since-ends (e .grown) (class-drives l h (e .goes)))
 
   -- a position, whatever its byte
-  positioned : {i j n : ℕ} {k : Marks} → In s j after n (asRead atom 0 (since i k)) → Ends s j n k [] [] (i ∷ [])
+  positioned : {i j n : ℕ} {k : Marks} → InModeNoted s j afterAtom n (asRead atom 0 (since i k)) → AtomEnds s j n k [] [] (i ∷ [])
   positioned x = record { marks = _; ends = x; grown = first-grown refl refl refl }
 
   -- `[`
-  to-class : {i n : ℕ} {k : Marks} → Awaits s i atom n k → byte s i ≡ 91 → In s (i + 1) (await low) n (asRead atom 0 (since i k))
+  to-class : {i n : ℕ} {k : Marks} → AwaitsNoted s i atom n k → byte s i ≡ 91 → InModeNoted s (i + 1) (await low) n (asRead atom 0 (since i k))
   unfolding literal
   to-class a h = taken a (λ x. rw h refl) (λ x. rw h refl)
 
-  single-drives : {i j n : ℕ} {y : Leaf} {k : Marks} → Single s i j y → Awaits s i atom n k → Ends s j n k (fallingLeaf y) [] (i ∷ [])
+  single-drives : {i j n : ℕ} {y : Leaf} {k : Marks} → Single s i j y → AwaitsNoted s i atom n k → AtomEnds s j n k (fallingLeaf y) [] (i ∷ [])
   unfolding literal fallingLeaf
   single-drives (a-dot h) a = positioned (taken a (λ x. rw h refl) (λ x. rw h refl))
   single-drives (a-literal h) a = positioned (taken a (λ x. rw h refl) (λ x. rw h refl))
@@ -170,31 +170,31 @@ module _ {s : List ℕ} where
   single-drives (a-class h l c) a = since-ends (first-grown refl refl refl) (class-drives l c (awaited (to-class a h)))
 
   -- `\e` and `\0`
-  unmarked : {i j n : ℕ} {k : Marks} → In s j after n (since i k) → Ends s j n k [] [] []
+  unmarked : {i j n : ℕ} {k : Marks} → InModeNoted s j afterAtom n (since i k) → AtomEnds s j n k [] [] []
   unmarked x = record { marks = _; ends = x; grown = none-grown refl refl refl }
 
   -- `(`
-  to-group : {i n : ℕ} {k : Marks} → Awaits s i atom n k → byte s i ≡ 40 → In s (i + 1) (await atom) (suc n) (nested n i (since i k))
+  to-group : {i n : ℕ} {k : Marks} → AwaitsNoted s i atom n k → byte s i ≡ 40 → InModeNoted s (i + 1) (await atom) (suc n) (nested n i (since i k))
   unfolding literal
   to-group a h = taken a (λ x. rw h refl) (λ x. rw h refl)
 
   -- a byte after an atom notes nothing but where another atom begins
-  then : {j n n′ : ℕ} {m : Mode} {k : Marks} → In s j after n k → next after n (byte s j) ≡ at m n′ → ((x : Marks) → begun atom n (byte s j) j k x ≡ x) → In s (j + 1) m n′ k
+  then : {j n n′ : ℕ} {m : Mode} {k : Marks} → InModeNoted s j afterAtom n k → next afterAtom n (byte s j) ≡ at m n′ → ((x : Marks) → begun atom n (byte s j) j k x ≡ x) → InModeNoted s (j + 1) m n′ k
   then x e d = on x e (λ _. d _)
 
-  to-star : {j n : ℕ} {k : Marks} → In s j after n k → byte s j ≡ 42 → In s (j + 1) after n k
+  to-star : {j n : ℕ} {k : Marks} → InModeNoted s j afterAtom n k → byte s j ≡ 42 → InModeNoted s (j + 1) afterAtom n k
   unfolding literal
   to-star x h = then x (rw h refl) (λ x. rw h refl)
 
-  to-bar : {j n : ℕ} {k : Marks} → In s j after n k → byte s j ≡ 124 → In s (j + 1) (await atom) n k
+  to-bar : {j n : ℕ} {k : Marks} → InModeNoted s j afterAtom n k → byte s j ≡ 124 → InModeNoted s (j + 1) (await atom) n k
   unfolding literal
   to-bar x h = then x (rw h refl) (λ x. rw h refl)
 
-  to-close : {j n : ℕ} {k : Marks} → In s j after (suc n) k → byte s j ≡ 41 → In s (j + 1) after n k
+  to-close : {j n : ℕ} {k : Marks} → InModeNoted s j afterAtom (suc n) k → byte s j ≡ 41 → InModeNoted s (j + 1) afterAtom n k
   unfolding literal
   to-close x h = then x (rw h refl) (λ x. rw h refl)
 
-  drives : {l : Level} {i j n : ℕ} {t : Tree} {k : Marks} → Reads s l i j t → Awaits s i atom n k → Ends s j n k (falling t) (inside n t) (places t)
+  drives : {l : Level} {i j n : ℕ} {t : Tree} {k : Marks} → Reads s l i j t → AwaitsNoted s i atom n k → AtomEnds s j n k (falling t) (inside n t) (places t)
   unfolding escapable falling inside places
   drives (single y) a = single-drives y a
   drives (no-byte {i = i} h e) a = unmarked {i = i} (further _ 1 (to-back a h) (rw e refl) (λ _. rw e refl))
@@ -208,12 +208,12 @@ module _ {s : List ℕ} where
   drives (next-branch r h q) a = let d = drives r a in since-ends (d .grown) (drives q (awaited (to-bar (d .ends) h)))
 
 -- what is noted at the end of a text with the tree t
-pub record Noted (s : List ℕ) (t : Tree) : Type 0 where
+pub record NotedAll (s : List ℕ) (t : Tree) : Type 0 where
   pub falls-noted : notesTo s (length s) .marks .falls ≡ falling t
   pub opens-noted : notesTo s (length s) .marks .opens ≡ opened nestLimit t
   pub firsts-noted : notesTo s (length s) .marks .firsts ≡ places t
 
-pub legal-notes : (s : List ℕ) (t : Tree) → Pattern s t → Noted s t
+pub legal-notes : (s : List ℕ) (t : Tree) → Pattern s t → NotedAll s t
 legal-notes s t r =
     let d = drives r (awaited (record { state = refl; marks = refl })) in
     record { falls-noted = rw (d .ends .marks) (d .grown .falls); opens-noted = rw (d .ends .marks) (d .grown .opens ∙ inside-opened t); firsts-noted = rw (d .ends .marks) (d .grown .firsts) }

@@ -12,27 +12,27 @@ use mathlib.Core.List.{List}
 use native.Mathlib.Omega.{arith}
 use native.Mathlib.Numerals.{add-one}
 use lib.ListN.{length, getD}
-use Rattle.scope.specs.Tree.{Tree}
-use Rattle.scope.specs.Judge.{Pattern}
-use Rattle.scope.proofs.Lists.{any-default}
-use Rattle.scope.specs.Modes.{Piece, atom, at, isStuck, after, runTo}
-use Rattle.scope.proofs.Places.{legal-exact, stuck-at, unfinished}
+use Rattle.scope.specs.Text.Tree.{Tree}
+use Rattle.scope.specs.Text.Judge.{Pattern}
+use Rattle.scope.proofs.Counting.Lists.{any-default}
+use Rattle.scope.specs.Text.Modes.{Piece, atom, at, isStuck, afterAtom, runTo}
+use Rattle.scope.proofs.Text.Places.{legal-exact, stuck-at, unfinished}
 use Rattle.judge.specs.declared.Judged.{Judged}
-use Rattle.reading.specs.declared.Reading.{Reading}
-use Rattle.judge.specs.Judges.{Judges, legal, syntax, range, depth, positions}
-use Rattle.reading.specs.Notes.{blank}
+use Rattle.judge_state.specs.declared.Reading.{Reading}
+use Rattle.judge.specs.Judges.{JudgesText, legal, syntax, range, depth, positions}
+use Rattle.judge_state.specs.Notes.{blank}
 use Rattle.judge.specs.Faults.{Finds, nothing, falling, deep, many, Faults}
-use Rattle.reading.specs.Reading.{pieceOf, stateOf, standing, Kept}
-use Rattle.inside.specs.Steps.{Advances}
-use Rattle.judge.proofs.Drives.{notesTo, Noted, legal-notes}
-use Rattle.reading.proofs.Laws.{beyond-stage}
+use Rattle.judge_state.specs.Reading.{pieceOf, stateOf, standing, NotesKept}
+use Rattle.judge_inside.specs.Steps.{Advances}
+use Rattle.judge.proofs.Drives.{notesTo, NotedAll, legal-notes}
+use Rattle.judge_state.proofs.ByteTaken.{beyond-stage}
 
 pub record Follows (s : List ℕ) (i : ℕ) (x : Reading) : Type 0 where
   pub state : standing x ≡ runTo s i
-  pub notes : Kept (notesTo s i) x
+  pub notes : NotesKept (notesTo s i) x
 
 -- before the first byte
-pub follows-first : {s : List ℕ} {x : Reading} → x .stage ≡ 0 → x .piece ≡ 0 → x .deep ≡ 0 → Kept blank x → Follows s 0 x
+pub follows-first : {s : List ℕ} {x : Reading} → x .stage ≡ 0 → x .piece ≡ 0 → x .deep ≡ 0 → NotesKept blank x → Follows s 0 x
 follows-first a b c k = record { state = rw (a, b, c) refl; notes = k }
 
 -- ---- a byte
@@ -60,13 +60,13 @@ module _ (s : List ℕ) (i : ℕ) {x y : Reading} (h : i < length s) (f : Follow
   follows-on l = record { state = state-on; notes = rw add-one (rw (any-default s i 0 256 h, f .state) at (t .notes (ap isStuck (sym (t .state)) ∙ free y l) (notesTo s i) (f .notes))) }
 
   -- a byte on which the machine gets stuck
-  pub stops : x .stage ≤ 4 → 4 < y .stage → Judges s (Judged.Syntax i)
+  pub stops : x .stage ≤ 4 → 4 < y .stage → JudgesText s (Judged.Syntax i)
   stops l m = syntax (stuck-at s i h (ap isStuck (sym (f .state)) ∙ free x l) (ap isStuck (sym state-on ∙ beyond-stage (y .stage) (pieceOf (y .piece)) (y .deep) m)))
 
 -- ---- the end
 
 -- after an atom with nothing open
-record Whole (x : Reading) : Type 0 where
+record NothingOpen (x : Reading) : Type 0 where
   stage-is : x .stage ≡ 1
   piece-is : x .piece ≡ 0
   deep-is : x .deep ≡ 0
@@ -78,10 +78,10 @@ atom-is (suc zero) e = cc
 atom-is (suc (suc p)) e = cc
 
 -- only there the machine accepts
-whole-is : (x : Reading) → standing x ≡ at after 0 → Whole x
+whole-is : (x : Reading) → standing x ≡ at afterAtom 0 → NothingOpen x
 whole-is x e = go (x .stage) refl e
   where
-    go : (k : ℕ) → x .stage ≡ k → stateOf k (pieceOf (x .piece)) (x .deep) ≡ at after 0 → Whole x
+    go : (k : ℕ) → x .stage ≡ k → stateOf k (pieceOf (x .piece)) (x .deep) ≡ at afterAtom 0 → NothingOpen x
     go zero h d = let z : _≡_ {A = ℕ} 0 1 = cc in absurd (omega arith)
     go (suc zero) h d = record { stage-is = h; piece-is = atom-is (x .piece) cc; deep-is = cc }
     go (suc (suc zero)) h d = let z : _≡_ {A = ℕ} 0 1 = cc in absurd (omega arith)
@@ -90,7 +90,7 @@ whole-is x e = go (x .stage) refl e
     go (suc (suc (suc (suc (suc k))))) h d = let z : _≡_ {A = ℕ} 0 1 = cc in absurd (omega arith)
 
 -- what is judged of the places that were noted is judged of the tree
-judges-by : (s : List ℕ) {t : Tree} {r : Judged} → Pattern s t → Noted s t → Finds (notesTo s (length s) .marks) r → Judges s r
+judges-by : (s : List ℕ) {t : Tree} {r : Judged} → Pattern s t → NotedAll s t → Finds (notesTo s (length s) .marks) r → JudgesText s r
 judges-by s p n (nothing a b c) =
     legal (record { pattern = p; ordered = rw (n .falls-noted) at a; shallow = rw (n .opens-noted) at b; brief = rw (n .firsts-noted) at c })
 judges-by s p n (falling a) = range p (rw (n .falls-noted) at a)
@@ -99,12 +99,12 @@ judges-by s p n (many a b c) = positions p (rw (n .falls-noted) at a) (rw (n .op
 
 module _ (s : List ℕ) (i : ℕ) {x : Reading} (e : i ≡ length s) (f : Follows s i x) where
   -- the text ends elsewhere
-  pub lacks : x .stage ≤ 4 → (x .stage ≡ 1 → x .piece ≡ 0 → x .deep ≡ 0 → ⊥) → Judges s (Judged.Syntax i)
+  pub lacks : x .stage ≤ 4 → (x .stage ≡ 1 → x .piece ≡ 0 → x .deep ≡ 0 → ⊥) → JudgesText s (Judged.Syntax i)
   lacks l g = syntax {i = i} (rw e (unfinished s (rw e at (ap isStuck (sym (f .state)) ∙ free x l)) (λ d. let w = whole-is x (f .state ∙ rw e d) in g (w .stage-is) (w .piece-is) (w .deep-is))))
 
   -- the text ends there, and has a tree
-  pub ends : {r : Judged} → x .stage ≡ 1 → x .piece ≡ 0 → x .deep ≡ 0 → Faults x r → Judges s r
+  pub ends : {r : Judged} → x .stage ≡ 1 → x .piece ≡ 0 → x .deep ≡ 0 → Faults x r → JudgesText s r
   ends a b c g =
-      let d : runTo s (length s) ≡ at after 0 = rw (← e, ← f .state, a, b, c) refl in
+      let d : runTo s (length s) ≡ at afterAtom 0 = rw (← e, ← f .state, a, b, c) refl in
       let l = legal-exact s .1 d in
       judges-by s (l .reads) (legal-notes s (l .tree) (l .reads)) (g _ (rw e at (f .notes)))

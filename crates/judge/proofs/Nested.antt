@@ -8,7 +8,7 @@ use native.Mathlib.Omega.{arith}
 use borrow.Author.Tests.{ne-eqb}
 use lib.Dec.{eqb}
 use Rattle.scope.specs.Limits.{nestLimit}
-use Rattle.scope.specs.Tree.{onlyIf, Tree, nothing, empty, position, group, starred, beside, either, opened}
+use Rattle.scope.specs.Text.Tree.{onlyIf, Tree, nothing, empty, position, group, starred, beside, either, opened}
 
 unfoldable pub inside : ℕ → Tree → List ℕ
 inside n nothing = []

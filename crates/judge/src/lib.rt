@@ -1,12 +1,12 @@
 // Judging a pattern text: SYNTAX, RANGE, DEPTH and POSITIONS with their places, in one pass with a mode and a count of open parentheses.
-ghost use Rattle.judge.specs.Judges.{Judges};
+ghost use Rattle.judge.specs.Judges.{JudgesText};
 ghost use Rattle.judge.specs.Faults.{Faults};
-use reading::Reading;
+use judge_state::Reading;
 use scope::Machine;
 
 // What a text is judged: legal, or the first fault in the order of judgement, with its place.
 pub enum Judged {
-    Legal,
+    Faultless,
     Syntax(usize),
     Range(usize),
     Depth(usize),
@@ -29,17 +29,17 @@ fn first_fault(x: Reading) -> Judged
     if Machine::POSITIONS < firsts.count {
         return Judged::Positions(firsts.place);
     }
-    Judged::Legal
+    Judged::Faultless
 }
 
 // What the text is judged.
 pub fn judge(text: &[u8]) -> Judged
-    ensures { λ r. ⌜ Judges (now (text .entry)) r ⌝ }
+    ensures { λ r. ⌜ JudgesText (now (text .entry)) r ⌝ }
 {
     let mut x = Reading::new();
     let mut place: usize = 0;
     while place < text.len() {
-        x = advance::advance(x, text[place], place);
+        x = judge_step::advance(x, text[place], place);
         if Reading::DIGIT < x.stage {
             return Judged::Syntax(place);
         }

@@ -1,7 +1,7 @@
 -- The text: ends inside of it, and how a byte is read
-pub mod Grammar
+pub mod ByteByByte
 -- Byte sets in the buffer
-pub mod Held
+pub mod MarkedBytes
 -- What stands at one position
-pub mod Classes
+pub mod ClassItems
 pub mod Singles

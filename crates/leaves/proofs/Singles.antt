@@ -9,15 +9,15 @@ use mathlib.Core.List.{List}
 use native.Mathlib.Omega.{arith}
 use borrow.Author.Tests.{le-leb, lt-ltb}
 use Rattle.scope.specs.Bytes.{byte, between}
-use Rattle.scope.specs.Grammar.{literal, Escape, Single, a-dot, a-literal, an-escape, a-class}
+use Rattle.scope.specs.Text.Grammar.{literal, Escape, Single, a-dot, a-literal, an-escape, a-class}
 use Rattle.scope.specs.Limits.{byteValues}
-use Rattle.scope.specs.Tree.{Leaf, anyByte, itemsSet, setOf}
-use Rattle.scope.proofs.Grammar.{other, escape-head, escape-on, items-on, single-on, single-one}
-use Rattle.leaves.specs.Held.{Marked}
-use Rattle.leaves.specs.Parts.{Some, WholeItems, Took}
-use Rattle.leaves.proofs.Grammar.{escape-in, items-in, single-in}
-use Rattle.leaves.proofs.Held.{marked-as, between-one}
-use Rattle.leaves.proofs.Classes.{some, took}
+use Rattle.scope.specs.Text.Tree.{Leaf, anyByte, itemsSet, setOf}
+use Rattle.scope.proofs.Text.Grammar.{other, escape-head, escape-on, items-on, single-on, single-one}
+use Rattle.leaves.specs.MarkedBytes.{Marked}
+use Rattle.leaves.specs.ReadAt.{Some, WholeItems, Took}
+use Rattle.leaves.proofs.ByteByByte.{escape-in, items-in, single-in}
+use Rattle.leaves.proofs.MarkedBytes.{marked-as, between-one}
+use Rattle.leaves.proofs.ClassItems.{some, took}
 
 -- the dot's bytes are those from 0 to 255
 pub any-byte : (n : ℕ) → n < byteValues → between 0 255 n ≡ anyByte n

@@ -1,4 +1,4 @@
 -- The bytes that a position holds
-pub mod Held
+pub mod MarkedBytes
 -- What can be read at a place
-pub mod Parts
+pub mod ReadAt

@@ -4,11 +4,11 @@ pub mod text;
 
 ghost use Prim.Native.Nat.{_<_, _≤_};
 ghost use lib.ListN.{length};
-ghost use Rattle.scope.specs.Grammar.{Single};
+ghost use Rattle.scope.specs.Text.Grammar.{Single};
 ghost use Rattle.scope.specs.Limits.{positionLimit};
-ghost use Rattle.scope.specs.Tree.{itemSet, itemsSet, setOf};
+ghost use Rattle.scope.specs.Text.Tree.{itemSet, itemsSet, setOf};
 ghost use Rattle.sets.specs.Layout.{byteSets};
-ghost use Rattle.leaves.specs.Parts.{Some, WholeItem, WholeItems, Took};
+ghost use Rattle.leaves.specs.ReadAt.{Some, WholeItem, WholeItems, Took};
 use marks::mark;
 use text::BACKSLASH;
 use text::CLASS_CLOSE;

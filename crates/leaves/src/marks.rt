@@ -2,11 +2,11 @@
 ghost use mathlib.Core.Path.{_≡_};
 ghost use Prim.Native.Nat.{ℕ, _-_, _/_, _<_, _≤_};
 ghost use lib.ListN.{length};
-ghost use Rattle.scope.specs.Bits.{has};
+ghost use Rattle.scope.specs.Positions.Bits.{has};
 ghost use Rattle.scope.specs.Bytes.{between};
 ghost use Rattle.scope.specs.Limits.{byteValues, positionLimit};
 ghost use Rattle.sets.specs.Layout.{byteSets};
-ghost use Rattle.leaves.specs.Held.{Marked};
+ghost use Rattle.leaves.specs.MarkedBytes.{Marked};
 use sets::layout::BYTE_SET;
 
 // The byte that has the bits from first to last.

@@ -3,9 +3,9 @@ ghost use mathlib.Core.Path.{_≡_};
 ghost use Prim.Native.Nat.{_<_, _≤_};
 ghost use lib.ListN.{length};
 ghost use Rattle.scope.specs.Bytes.{byte};
-ghost use Rattle.scope.specs.Grammar.{Escape, ClassByte};
+ghost use Rattle.scope.specs.Text.Grammar.{Escape, ClassByte};
 ghost use Rattle.scope.specs.Limits.{byteValues, patternLimit};
-ghost use Rattle.leaves.specs.Parts.{Backslash, Some};
+ghost use Rattle.leaves.specs.ReadAt.{Backslash, Some};
 
 // The bytes that the grammar names, and what is read past the end of the text.
 pub const OPEN: usize = b'(' as usize;

@@ -6,7 +6,7 @@ use mathlib.Core.Path.{_≡_}
 use mathlib.Core.Bool.{Bool, true, Bool·beq}
 use native.Mathlib.Omega.{arith}
 use lib.Dec.{eqb}
-use Rattle.scope.proofs.Tests.{all, all-is, same-bool, equals}
+use Rattle.scope.proofs.Counting.Tests.{all, all-is, same-bool, equals}
 
 pub among : (f : ℕ → Bool) (v : Bool) (lo n : ℕ) → all (λ i. Bool·beq v (f (lo + i))) n ≡ true → (b : ℕ) → lo ≤ b → b < lo + n → v ≡ f b
 among f v lo n e b h k =

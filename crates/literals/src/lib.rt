@@ -1,6 +1,6 @@
 // The sets of bytes that the pattern language names. Each test looks for the byte among the ranges of the set and those between them, by halving.
 ghost use mathlib.Core.Path.{_≡_};
-ghost use Rattle.scope.specs.Grammar.{literal, escapable, classLiteral, hex};
+ghost use Rattle.scope.specs.Text.Grammar.{literal, escapable, classLiteral, hex};
 
 // Whether b is a literal: 0x20 to 0x27, `,` `-`, `/` to `>`, `@` to `Z`, `^` to `z`, `~`.
 pub fn is_literal(b: u8) -> bool

@@ -3,7 +3,7 @@
 --   live-here, live-there: an accepting state is live, and one that a byte leads to a live one
 --   marks-accepting: the accept marks of a sound room are marks
 --   ones-set, ones-most: one mark more; at most as many as there are places
---   Passed m l₀ l added q: a sweep that came down to the state q; passed-none, passed-on, passed-new, passed-all: it begins, passes a state by, marks it, ends
+--   SweptDown m l₀ l added q: a sweep that came down to the state q; passed-none, passed-on, passed-new, passed-all: it begins, passes a state by, marks it, ends
 --   live-all: settled marks are those of all live states
 use Prim.Native.Nat.{ℕ, zero, suc, _+_, _-_, _≤_, _<_}
 use mathlib.Core.Path.{_≡_, sym, _∙_}
@@ -16,12 +16,12 @@ use lib.ListN.{length, getD, set, length-set, List·getD-eq-default}
 use lib.Seq.{getD-set-same, getD-set-other}
 use Rattle.scope.specs.Limits.{byteValues, stateLimit, marksAt}
 use Rattle.scope.specs.Bytes.{Bytes}
-use Rattle.scope.specs.Buffers.{Written}
-use Rattle.scope.specs.Machine.{run}
-use Rattle.scope.specs.Room.{statesOf, markOf, nextOf, machine, Sound}
-use Rattle.scope.proofs.Tests.{split, equals}
-use Rattle.scope.proofs.Run.{sound-closed}
-use Rattle.live.specs.Live.{Live, Marks, LiveMarks, Leads, Settled, ones, Swept}
+use Rattle.scope.specs.Operations.Buffers.{Written}
+use Rattle.scope.specs.Machines.Machine.{run}
+use Rattle.scope.specs.Machines.Room.{statesOf, markOf, nextOf, machine, Sound}
+use Rattle.scope.proofs.Counting.Tests.{split, equals}
+use Rattle.scope.proofs.Machines.Run.{sound-closed}
+use Rattle.live.specs.Live.{Live, SomeLive, LiveMarks, Leads, Settled, ones, MarksSwept}
 
 -- an accepting state is live
 pub live-here : (m : List ℕ) (q : ℕ) → markOf m q ≡ 1 → Live (machine m) q
@@ -44,7 +44,7 @@ module _ (m z l : List ℕ) (s : Sound m) (e : length z ≡ stateLimit) (w : Wri
   within q h = w .inside q (omega (arith, s .few-states))
 
   -- the accept marks of a sound room are marks
-  pub marks-accepting : Marks m l
+  pub marks-accepting : SomeLive m l
   marks-accepting = record {
     size = w .size ∙ e;
     small = λ q. elim (split q (statesOf m)) [
@@ -73,7 +73,7 @@ ones-most [] h = omega arith
 ones-most (x ∷ l) h = omega (arith, h 0, ones-most l (λ i. h (suc i)))
 
 -- a state that leads to a marked one may be marked
-marks-set : (m l : List ℕ) (q : ℕ) → q < statesOf m → Sound m → Marks m l → Leads m l q → Marks m (set l q 1)
+marks-set : (m l : List ℕ) (q : ℕ) → q < statesOf m → Sound m → SomeLive m l → Leads m l q → SomeLive m (set l q 1)
 marks-set m l q lt s r d = record {
   size = length-set l q 1 ∙ r .size;
   small = λ i. elim (ℕ-discrete i q) [ yes e ↦ rw (e, at) (omega arith) | no n ↦ rw (off i n) (r .small i) ];
@@ -94,20 +94,20 @@ marks-set m l q lt s r d = record {
 -- ---- a sweep
 
 -- what holds of the marks when the states from q on are passed
-pub record Passed (m l₀ l : List ℕ) (added q : ℕ) : Type 0 where
-  pub marks : Marks m l
+pub record SweptDown (m l₀ l : List ℕ) (added q : ℕ) : Type 0 where
+  pub marks : SomeLive m l
   pub more : ones l ≡ ones l₀ + added
   pub settled : added ≡ 0 → Settled m l q
   pub few : added + q ≤ statesOf m
 
 -- no state is passed
-pub passed-none : {m l : List ℕ} → Marks m l → Passed m l l 0 (statesOf m)
+pub passed-none : {m l : List ℕ} → SomeLive m l → SweptDown m l l 0 (statesOf m)
 passed-none r = record { marks = r; more = omega arith; settled = λ e q h k. absurd (omega arith); few = omega arith }
 
 -- a state that is marked, or leads to no marked one
 pub passed-on :
-    {m l₀ l : List ℕ} {added : ℕ} (q : ℕ) → 0 < q → (Leads m l (q - 1) → getD l (q - 1) 0 ≡ 1) → Passed m l₀ l added q
-    → Passed m l₀ l added (q - 1)
+    {m l₀ l : List ℕ} {added : ℕ} (q : ℕ) → 0 < q → (Leads m l (q - 1) → getD l (q - 1) 0 ≡ 1) → SweptDown m l₀ l added q
+    → SweptDown m l₀ l added (q - 1)
 passed-on {m} {l} q h f p = record {
   marks = p .marks;
   more = p .more;
@@ -120,8 +120,8 @@ passed-on {m} {l} q h f p = record {
 
 -- a state that was not marked, and is now
 pub passed-new :
-    {m l₀ l : List ℕ} {added : ℕ} (q : ℕ) → Sound m → 0 < q → getD l (q - 1) 0 ≡ 0 → Leads m l (q - 1) → Passed m l₀ l added q
-    → Passed m l₀ (set l (q - 1) 1) (added + 1) (q - 1)
+    {m l₀ l : List ℕ} {added : ℕ} (q : ℕ) → Sound m → 0 < q → getD l (q - 1) 0 ≡ 0 → Leads m l (q - 1) → SweptDown m l₀ l added q
+    → SweptDown m l₀ (set l (q - 1) 1) (added + 1) (q - 1)
 passed-new {m} {l₀} {l} q s h z d p = record {
   marks = marks-set m l (q - 1) (omega (arith, p .few)) s (p .marks) d;
   more = omega (arith, ones-set l (q - 1) (omega (arith, p .few, s .few-states, p .marks .size)) z, p .more);
@@ -130,12 +130,12 @@ passed-new {m} {l₀} {l} q s h z d p = record {
 }
 
 -- all states are passed
-pub passed-all : {m l₀ l : List ℕ} {added : ℕ} → Passed m l₀ l added 0 → Swept m l₀ l added
+pub passed-all : {m l₀ l : List ℕ} {added : ℕ} → SweptDown m l₀ l added 0 → MarksSwept m l₀ l added
 passed-all p = record { marks = p .marks; more = p .more; settled = p .settled }
 
 -- ---- settled marks
 
-module _ (m l : List ℕ) (s : Sound m) (r : Marks m l) (f : Settled m l 0) where
+module _ (m l : List ℕ) (s : Sound m) (r : SomeLive m l) (f : Settled m l 0) where
   back : (w : List ℕ) (q : ℕ) → q < statesOf m → Bytes w → machine m .accepts (run (machine m) q w) ≡ true → getD l q 0 ≡ 1
   back [] q h g e = r .accepting q h (sym (equals (markOf m q) 1 .sound e))
   back (b ∷ w) q h g e =

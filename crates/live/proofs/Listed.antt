@@ -1,5 +1,5 @@
 -- The classes that hold a byte, listed once each: they are numbered on first arrival, and the list has what leads each number.
---   Listed m seen l n i: the list after the bytes of the room up to the place i
+--   LeadsListed m seen l n i: the list after the bytes of the room up to the place i
 --   listed-none, listed-old, listed-new: no byte; one more whose class was seen, or was not
 --   listed-holding, listed-full: after all 256 bytes, or with all classes
 --   class-fits, list-fits: a class, and a place of the list, is below 64
@@ -14,11 +14,11 @@ use native.Mathlib.Decide.{ℕ-discrete}
 use lib.ListN.{length, getD, set, length-set, replicate, length-replicate}
 use lib.Seq.{getD-set-same, getD-set-other}
 use Rattle.scope.specs.Limits.{byteValues, classLimit, classesAt, marksAt}
-use Rattle.scope.specs.Room.{classesOf, classOf, cellOf, nextOf, Sound}
-use Rattle.scope.proofs.Lists.{zeros}
-use Rattle.scope.proofs.Tests.{split}
-use Rattle.slices.specs.Numbered.{Numbered}
-use Rattle.slices.proofs.Numbered.{numbered-none, numbered-old, numbered-new, numbered-few, numbered-fewer}
+use Rattle.scope.specs.Machines.Room.{classesOf, classOf, cellOf, nextOf, Sound}
+use Rattle.scope.proofs.Counting.Lists.{zeros}
+use Rattle.scope.proofs.Counting.Tests.{split}
+use Rattle.buffers.specs.Numbered.{Numbered}
+use Rattle.buffers.proofs.Numbered.{numbered-none, numbered-old, numbered-new, numbered-few, numbered-fewer}
 use Rattle.live.specs.Live.{Holding, Leads}
 
 -- ---- numbered by the first byte that has them
@@ -27,7 +27,7 @@ abbrev Like : ℕ → ℕ → Type 0
 Like c d = c ≡ d
 
 -- number has the place in the list of the class of each byte; seen is not 0 for the classes in the list
-pub record Listed (m seen l : List ℕ) (n i : ℕ) : Type 0 where
+pub record LeadsListed (m seen l : List ℕ) (n i : ℕ) : Type 0 where
   pub size : length l ≡ classLimit
   pub places : length seen ≡ classLimit
   pub number : List ℕ
@@ -37,7 +37,7 @@ pub record Listed (m seen l : List ℕ) (n i : ℕ) : Type 0 where
   pub old : (c : ℕ) → (getD seen c 0 ≡ 0 → ⊥) → (j : ℕ) × (j < n) × (getD l j 0 ≡ c)
 
 -- no byte
-pub listed-none : (m : List ℕ) → Listed m (replicate classLimit 0) (replicate classLimit 0) 0 classesAt
+pub listed-none : (m : List ℕ) → LeadsListed m (replicate classLimit 0) (replicate classLimit 0) 0 classesAt
 listed-none m = record {
   size = refl;
   places = refl;
@@ -52,7 +52,7 @@ listed-none m = record {
 pub class-fits : {m : List ℕ} → Sound m → (i : ℕ) → classesAt ≤ i → i < marksAt → getD m i 0 < classLimit
 class-fits s i low high = omega (arith, s .classes i high low, s .few-classes)
 
-module _ {m seen l : List ℕ} {n i : ℕ} (s : Sound m) (low : classesAt ≤ i) (high : i < marksAt) (r : Listed m seen l n i) where
+module _ {m seen l : List ℕ} {n i : ℕ} (s : Sound m) (low : classesAt ≤ i) (high : i < marksAt) (r : LeadsListed m seen l n i) where
   abbrev x : ℕ
   x = i - classesAt
 
@@ -69,7 +69,7 @@ module _ {m seen l : List ℕ} {n i : ℕ} (s : Sound m) (low : classesAt ≤ i)
   off j b h = getD-set-other (r .number) x b j 0 (λ e. omega arith)
 
   -- one byte more whose class was seen
-  pub listed-old : (getD seen (getD m i 0) 0 ≡ 0 → ⊥) → Listed m seen l n (i + 1)
+  pub listed-old : (getD seen (getD m i 0) 0 ≡ 0 → ⊥) → LeadsListed m seen l n (i + 1)
   listed-old h = let (j, g, e) = r .old (getD m i 0) h in
       record {
         size = r .size;
@@ -92,7 +92,7 @@ module _ {m seen l : List ℕ} {n i : ℕ} (s : Sound m) (low : classesAt ≤ i)
             rw (← c .leads) (class-fits s (classesAt + c .thing) (omega arith) (omega (arith, c .inside)))
 
     -- one byte more whose class was not seen
-    pub listed-new : Listed m (set seen (getD m i 0) 1) (set l n (getD m i 0)) (n + 1) (i + 1)
+    pub listed-new : LeadsListed m (set seen (getD m i 0) 1) (set l n (getD m i 0)) (n + 1) (i + 1)
     listed-new = record {
       size = length-set l n c ∙ r .size;
       places = length-set seen c 1 ∙ r .places;
@@ -128,7 +128,7 @@ module _ {m seen l : List ℕ} {n i : ℕ} (s : Sound m) (low : classesAt ≤ i)
 
 -- ---- where all are listed
 
-module _ {m seen l : List ℕ} {n i : ℕ} (s : Sound m) (high : i ≤ marksAt) (r : Listed m seen l n i) where
+module _ {m seen l : List ℕ} {n i : ℕ} (s : Sound m) (high : i ≤ marksAt) (r : LeadsListed m seen l n i) where
   byte : (j : ℕ) → j < n → (b : ℕ) × (b < byteValues) × (classOf m b ≡ getD l j 0)
   byte j h = let c = r .numbered .came j h (omega arith) in (c .thing, omega (arith, c .inside), c .leads)
 

@@ -2,7 +2,7 @@
 mod marks;
 
 use scope::Machine;
-ghost use Rattle.scope.specs.Room.{Sound};
+ghost use Rattle.scope.specs.Machines.Room.{Sound};
 ghost use Rattle.live.specs.Live.{LiveMarks};
 
 // Marks the states that some string leads to acceptance.

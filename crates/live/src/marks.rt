@@ -4,9 +4,9 @@ ghost use mathlib.Core.Path.{_≡_};
 ghost use Prim.Native.Nat.{_<_};
 ghost use lib.ListN.{length};
 ghost use Rattle.scope.specs.Limits.{stateLimit};
-ghost use Rattle.scope.specs.Room.{statesOf, Sound};
-ghost use Rattle.slices.specs.Parts.{Decides};
-ghost use Rattle.live.specs.Live.{Holding, Marks, Leads, Swept};
+ghost use Rattle.scope.specs.Machines.Room.{statesOf, Sound};
+ghost use Rattle.buffers.specs.Stored.{Decides};
+ghost use Rattle.live.specs.Live.{Holding, SomeLive, Leads, MarksSwept};
 
 // The first `count` are the classes that hold a byte.
 pub struct Classes {
@@ -42,10 +42,10 @@ pub fn holding(room: &[u8]) -> Classes
 // The accept marks.
 pub fn accepting(room: &[u8]) -> [u8; Machine::STATES]
     requires { ⌜ Sound (now room) ⌝ }
-    ensures { λ r. ⌜ Marks (now (room .entry)) r ⌝ }
+    ensures { λ r. ⌜ SomeLive (now (room .entry)) r ⌝ }
 {
     let mut marks = [0u8; Machine::STATES];
-    slices::copy(&room[Machine::MARKS_AT..], &mut marks, Machine::STATES);
+    buffers::copy(&room[Machine::MARKS_AT..], &mut marks, Machine::STATES);
     marks
 }
 
@@ -88,8 +88,8 @@ pub fn sweep(
 ) -> Marked
     requires { ⌜ Sound (now room) ⌝ }
     requires { ⌜ Holding (now room) (now list) count ⌝ }
-    requires { ⌜ Marks (now room) marks ⌝ }
-    ensures { λ r. ⌜ Swept (now (room .entry)) marks (r .marks) (r .added) ⌝ }
+    requires { ⌜ SomeLive (now room) marks ⌝ }
+    ensures { λ r. ⌜ MarksSwept (now (room .entry)) marks (r .marks) (r .added) ⌝ }
 {
     let mut marks = marks;
     let mut added: usize = 0;

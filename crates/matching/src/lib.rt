@@ -5,10 +5,10 @@ ghost use mathlib.Core.Path.{_≡_};
 ghost use Prim.Native.Nat.{_<_};
 ghost use lib.ListN.{drop};
 ghost use Rattle.scope.specs.Answers.{matchedNumber, matchedPlace};
-ghost use Rattle.scope.specs.Machine.{run};
-ghost use Rattle.scope.specs.Match.{DeadAt, Matches};
+ghost use Rattle.scope.specs.Machines.Machine.{run};
+ghost use Rattle.scope.specs.Operations.Match.{DeadAt, Matches};
 ghost use Rattle.scope.specs.Limits.{cellsAt};
-ghost use Rattle.scope.specs.Room.{statesOf, classesOf, nextOf, machine, Sound};
+ghost use Rattle.scope.specs.Machines.Room.{statesOf, classesOf, nextOf, machine, Sound};
 ghost use Rattle.live.specs.Live.{Live, LiveMarks};
 
 // Judges the room, and answers how the text stands: accepted, dead from a place on, or unfinished.

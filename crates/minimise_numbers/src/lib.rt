@@ -1,5 +1,5 @@
 // Minimising with its answer as a number, for the C boundary.
-ghost use Rattle.scope.specs.Minimise.{Minimises};
+ghost use Rattle.scope.specs.Operations.Minimise.{Minimises};
 
 // Minimises, and returns the number of the answer.
 pub fn minimise(from: &[u8], to: &mut [u8], bytes: &mut [u8], words: &mut [u64]) -> u8

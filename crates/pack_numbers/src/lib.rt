@@ -1,6 +1,6 @@
 // Packing and unpacking with their answers as numbers, for the C boundary.
-ghost use Rattle.scope.specs.Pack.{Packs};
-ghost use Rattle.scope.specs.Unpack.{Unpacks};
+ghost use Rattle.scope.specs.Operations.Pack.{Packs};
+ghost use Rattle.scope.specs.Operations.Unpack.{Unpacks};
 
 // Packs, returns the number of the answer, and writes the length of the form.
 pub fn pack(

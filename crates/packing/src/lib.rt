@@ -4,10 +4,10 @@ use scope::Packed;
 use scope::Unpacked;
 ghost use mathlib.Core.Path.{_≡_};
 ghost use Rattle.scope.specs.Answers.{packedNumber, packedLength, unpackedNumber};
-ghost use Rattle.scope.specs.Canonical.{Canonical};
-ghost use Rattle.scope.specs.Pack.{Packs};
-ghost use Rattle.scope.specs.Unpack.{Unpacks};
-ghost use Rattle.slices.specs.Parts.{Decides};
+ghost use Rattle.scope.specs.Machines.Canonical.{Canonical};
+ghost use Rattle.scope.specs.Operations.Pack.{Packs};
+ghost use Rattle.scope.specs.Operations.Unpack.{Unpacks};
+ghost use Rattle.buffers.specs.Stored.{Decides};
 
 // Whether a room is canonical.
 fn is_canonical(room: &[u8]) -> bool
@@ -23,35 +23,35 @@ fn is_canonical(room: &[u8]) -> bool
 pub fn pack(room: &[u8], form: &mut [u8], bytes: &mut [u8], words: &mut [u64]) -> Packed
     ensures { λ r. ⌜ Packs (now (room .entry)) (now (form .entry)) (now (form .exit)) (now (bytes .entry)) (now (bytes .exit)) (now (words .entry)) (now (words .exit)) (packedNumber r) (packedLength r) ⌝ }
 {
-    if !slices::is_lent(room, bytes, words) {
+    if !buffers::is_lent(room, bytes, words) {
         return Packed::Room;
     }
-    slices::clear(bytes, words);
+    buffers::clear(bytes, words);
     if !is_canonical(room) {
         return Packed::Form;
     }
-    if form.len() < fields::form_length(room) {
+    if form.len() < packed_bits::form_length(room) {
         return Packed::Room;
     }
-    Packed::Done(put_fields::pack_fields(room, form))
+    Packed::Done(put_packed::pack_fields(room, form))
 }
 
 // Unpacking: writes the canonical room whose form the bytes are. The room is made in the scratch, and judged there.
 pub fn unpack(form: &[u8], room: &mut [u8], bytes: &mut [u8], words: &mut [u64]) -> Unpacked
     ensures { λ r. ⌜ Unpacks (now (form .entry)) (now (room .entry)) (now (room .exit)) (now (bytes .entry)) (now (bytes .exit)) (now (words .entry)) (now (words .exit)) (unpackedNumber r) ⌝ }
 {
-    if !slices::is_lent(room, bytes, words) {
+    if !buffers::is_lent(room, bytes, words) {
         return Unpacked::Room;
     }
-    if !take_fields::unpack_fields(form, bytes) {
-        slices::clear(bytes, words);
+    if !take_packed::unpack_fields(form, bytes) {
+        buffers::clear(bytes, words);
         return Unpacked::Form;
     }
     if !is_canonical(bytes) {
-        slices::clear(bytes, words);
+        buffers::clear(bytes, words);
         return Unpacked::Form;
     }
-    slices::copy(bytes, room, Machine::ROOM);
-    slices::clear(bytes, words);
+    buffers::copy(bytes, room, Machine::ROOM);
+    buffers::clear(bytes, words);
     Unpacked::Done
 }

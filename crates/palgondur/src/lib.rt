@@ -2,14 +2,14 @@
 // returned, and the numbers that come with it (a place, a length, rounds) are written through references, as 0 where the answer has none. Nothing
 // happens here: each function forwards to the one of a small crate over its operation (`compile_numbers` and so on), which takes the answer apart. The contract of
 // both is the operation's own relation, with what is returned and written in the place of the answer.
-ghost use Rattle.scope.specs.Compare.{Compares};
-ghost use Rattle.scope.specs.Compile.{Compiles};
-ghost use Rattle.scope.specs.Match.{Matches};
-ghost use Rattle.scope.specs.Minimise.{Minimises};
-ghost use Rattle.scope.specs.Pack.{Packs};
-ghost use Rattle.scope.specs.Unpack.{Unpacks};
-ghost use Rattle.entries.specs.Open.{Opens};
-ghost use Rattle.entries.specs.Press.{Presses};
+ghost use Rattle.scope.specs.Operations.Compare.{Compares};
+ghost use Rattle.scope.specs.Operations.Compile.{Compiles};
+ghost use Rattle.scope.specs.Operations.Match.{Matches};
+ghost use Rattle.scope.specs.Operations.Minimise.{Minimises};
+ghost use Rattle.scope.specs.Operations.Pack.{Packs};
+ghost use Rattle.scope.specs.Operations.Unpack.{Unpacks};
+ghost use Rattle.desk_rules.specs.Open.{Opens};
+ghost use Rattle.desk_rules.specs.Press.{Presses};
 
 // Compiling: 0 Done, 1 ROOM, 2 LONG, 3 to 6 SYNTAX, RANGE, DEPTH, POSITIONS with their place, 7 CLASSES, 8 STATES.
 #[no_mangle]

@@ -1,6 +1,6 @@
 -- A reading from its first part on. The first part is found by going down the grammar's left recursion; what comes after it is put to the end of the tail. A
 -- byte that ends an l ends its last part, and a part that follows another one begins with a byte that ends that one.
---   First lo l s i u j: an l, with the tree u, up to j, begins with a part of the level lo
+--   BeginsWith lo l s i u j: an l, with the tree u, up to j, begins with a part of the level lo
 --   first-factor, first-branch, first-expr: each has one
 --   ready-atom, ready-factor, ready-branch: which can be read, too
 --   begun: what is read there is a first part of whatever the l may be
@@ -11,16 +11,16 @@ use mathlib.Core.List.{List}
 use native.Mathlib.Omega.{arith}
 use lib.ListN.{length}
 use Rattle.scope.specs.Bytes.{byte}
-use Rattle.scope.specs.Grammar.{Level, atoms, factors, branches, exprs, Reads, one-atom, one-star, one-factor, next-factor, one-branch, next-branch}
+use Rattle.scope.specs.Text.Grammar.{Level, atoms, factors, branches, exprs, Reads, one-atom, one-star, one-factor, next-factor, one-branch, next-branch}
 use Rattle.scope.specs.Limits.{patternLimit, positionLimit}
-use Rattle.scope.specs.Re.{size}
-use Rattle.scope.specs.Tree.{Tree, starred, beside, either, expr}
-use Rattle.scope.proofs.Grammar.{other, reads-on}
-use Rattle.shapes.specs.declared.Part.{Part}
-use Rattle.factors.specs.Tails.{closes, stops, Whole, Tail, done, a-star, a-factor, a-branch}
-use Rattle.factors.specs.Answer.{Ready, Answer, Going}
-use Rattle.pattern.proofs.Grammar.{not-star}
-use Rattle.factors.proofs.Grammar.{reads-in}
+use Rattle.scope.specs.Text.Re.{size}
+use Rattle.scope.specs.Text.Tree.{Tree, starred, beside, either, expr}
+use Rattle.scope.proofs.Text.Grammar.{other, reads-on}
+use Rattle.fragments.specs.declared.Fragment.{Fragment}
+use Rattle.factors.specs.Tails.{closesExpr, stops, WholeLevel, Tail, done, a-star, a-factor, a-branch}
+use Rattle.factors.specs.Answer.{Readable, Answer, Going}
+use Rattle.pattern.proofs.AtomBegins.{not-star}
+use Rattle.factors.proofs.ReadsIn.{reads-in}
 
 -- ---- what ends what
 
@@ -32,16 +32,16 @@ pub bar-stops : {b : ℕ} → b ≡ 124 → stops b ≡ true
 unfolding stops
 bar-stops h = rw h refl
 
-close-stops : (b : ℕ) → closes b ≡ true → stops b ≡ true
+close-stops : (b : ℕ) → closesExpr b ≡ true → stops b ≡ true
 unfolding stops
 close-stops b h = rw h refl
 
 -- ---- the first part
 
-pub record First (lo l : Level) (s : List ℕ) (i : ℕ) (u : Tree) (j : ℕ) : Type 0 where
+pub record BeginsWith (lo l : Level) (s : List ℕ) (i : ℕ) (u : Tree) (j : ℕ) : Type 0 where
   pub end : ℕ
   pub tree : Tree
-  pub head : Whole lo s i end tree
+  pub head : WholeLevel lo s i end tree
   pub tail : Tail s l tree end u j
 
 module _ {s : List ℕ} where
@@ -49,30 +49,30 @@ module _ {s : List ℕ} where
   then-star done h = a-star h done
   then-star (a-star g r) h = a-star g (then-star r h)
 
-  then-factor : {t u f : Tree} {j k m : ℕ} → Tail s branches t j u k → Whole factors s k m f → Tail s branches t j (beside u f) m
+  then-factor : {t u f : Tree} {j k m : ℕ} → Tail s branches t j u k → WholeLevel factors s k m f → Tail s branches t j (beside u f) m
   then-factor done h = a-factor h done
   then-factor (a-factor g r) h = a-factor g (then-factor r h)
 
-  then-branch : {t u f : Tree} {j k m : ℕ} → Tail s exprs t j u k → byte s k ≡ 124 → Whole branches s (k + 1) m f → Tail s exprs t j (either u f) m
+  then-branch : {t u f : Tree} {j k m : ℕ} → Tail s exprs t j u k → byte s k ≡ 124 → WholeLevel branches s (k + 1) m f → Tail s exprs t j (either u f) m
   then-branch done e h = a-branch e h done
   then-branch (a-branch b g r) e h = a-branch b g (then-branch r e h)
 
-  pub first-factor : {i j : ℕ} {t : Tree} → Reads s factors i j t → First atoms factors s i t j
+  pub first-factor : {i j : ℕ} {t : Tree} → Reads s factors i j t → BeginsWith atoms factors s i t j
   first-factor (one-atom r) = record { end = _; tree = _; head = (r, tt); tail = done }
   first-factor (one-star r h) = let a = first-factor r in record { end = a .end; tree = a .tree; head = a .head; tail = then-star (a .tail) h }
 
-  factors-of : {i j : ℕ} {t : Tree} → Reads s branches i j t → (byte s j ≡ 42 → ⊥) → First factors branches s i t j
+  factors-of : {i j : ℕ} {t : Tree} → Reads s branches i j t → (byte s j ≡ 42 → ⊥) → BeginsWith factors branches s i t j
   factors-of (one-factor r) e = record { end = _; tree = _; head = (r, e); tail = done }
   factors-of (next-factor r q) e = let a = factors-of r (not-star q) in record { end = a .end; tree = a .tree; head = a .head; tail = then-factor (a .tail) (q, e) }
 
-  pub first-branch : {i j : ℕ} {t : Tree} → Whole branches s i j t → First factors branches s i t j
+  pub first-branch : {i j : ℕ} {t : Tree} → WholeLevel branches s i j t → BeginsWith factors branches s i t j
   first-branch (r, e) = factors-of r (stop-star e)
 
-  branches-of : {i j : ℕ} {t : Tree} → Reads s exprs i j t → stops (byte s j) ≡ true → First branches exprs s i t j
+  branches-of : {i j : ℕ} {t : Tree} → Reads s exprs i j t → stops (byte s j) ≡ true → BeginsWith branches exprs s i t j
   branches-of (one-branch r) e = record { end = _; tree = _; head = (r, e); tail = done }
   branches-of (next-branch r h q) e = let a = branches-of r (bar-stops h) in record { end = a .end; tree = a .tree; head = a .head; tail = then-branch (a .tail) h (q, e) }
 
-  pub first-expr : {i j : ℕ} {t : Tree} → Whole exprs s i j t → First branches exprs s i t j
+  pub first-expr : {i j : ℕ} {t : Tree} → WholeLevel exprs s i j t → BeginsWith branches exprs s i t j
   first-expr (r, e) = branches-of r (close-stops _ e)
 
   -- ---- what can be read
@@ -85,25 +85,25 @@ module _ {s : List ℕ} where
   tail-size (a-factor h r) = omega (arith, tail-size r)
   tail-size (a-branch h g r) = omega (arith, tail-size r)
 
-  pub ready : (l : Level) {i j k : ℕ} {t : Tree} → length s ≤ patternLimit → Whole l s i j t → k + size (expr t) ≤ positionLimit → Ready l k s i
+  pub ready : (l : Level) {i j k : ℕ} {t : Tree} → length s ≤ patternLimit → WholeLevel l s i j t → k + size (expr t) ≤ positionLimit → Readable l k s i
   ready l h w b = record { short = h; inside = omega (arith, reads-on (w .0), reads-in (w .0)); end = _; tree = _; whole = w; brief = b }
 
   module _ {k i : ℕ} where
-    part : {lo l : Level} {u : Tree} {j : ℕ} → length s ≤ patternLimit → First lo l s i u j → k + size (expr u) ≤ positionLimit → Ready lo k s i
+    part : {lo l : Level} {u : Tree} {j : ℕ} → length s ≤ patternLimit → BeginsWith lo l s i u j → k + size (expr u) ≤ positionLimit → Readable lo k s i
     part {lo} h f b = ready lo h (f .head) (omega (arith, tail-size (f .tail)))
 
-    pub ready-atom : Ready factors k s i → Ready atoms k s i
+    pub ready-atom : Readable factors k s i → Readable atoms k s i
     ready-atom p = part (p .short) (first-factor (p .whole .0)) (p .brief)
 
-    pub ready-factor : Ready branches k s i → Ready factors k s i
+    pub ready-factor : Readable branches k s i → Readable factors k s i
     ready-factor p = part (p .short) (first-branch (p .whole)) (p .brief)
 
-    pub ready-branch : Ready exprs k s i → Ready branches k s i
+    pub ready-branch : Readable exprs k s i → Readable branches k s i
     ready-branch p = part (p .short) (first-expr (p .whole)) (p .brief)
 
   -- ---- what was read
 
-  pub begun : {lo l : Level} {i k j : ℕ} {u : Tree} {y y′ w w′ : List ℕ} {g : Part} → Answer lo s i k y y′ w w′ g → First lo l s i u j → Going l s k y y′ w w′ g u j
+  pub begun : {lo l : Level} {i k j : ℕ} {u : Tree} {y y′ w w′ : List ℕ} {g : Fragment} → Answer lo s i k y y′ w w′ g → BeginsWith lo l s i u j → Going l s k y y′ w w′ g u j
   begun {l = l} {j = j} {u = u} a f =
       let x = a .says (f .end) (f .tree) (f .head) in
       record { tree = f .tree; right = x .right; tail = subst (λ (n : ℕ). Tail s l (f .tree) n u j) (sym (x .next)) (f .tail) }

@@ -10,21 +10,21 @@ use native.Mathlib.Nat.{zero-add}
 use native.Mathlib.Omega.{arith}
 use lib.Bits.{bitOr, or-zero-l}
 use lib.ListN.{length, length-append, List·getD-eq-default}
-use Rattle.scope.specs.Bits.{has, follow, holders}
-use Rattle.scope.specs.Grammar.{exprs}
-use Rattle.scope.specs.Judge.{Pattern}
+use Rattle.scope.specs.Positions.Bits.{has, follow, holders}
+use Rattle.scope.specs.Text.Grammar.{exprs}
+use Rattle.scope.specs.Text.Judge.{Pattern}
 use Rattle.scope.specs.Limits.{setWords}
-use Rattle.scope.specs.Re.{size}
-use Rattle.scope.specs.Tree.{Tree, nothing, empty, position, group, starred, beside, either, expr, places}
-use Rattle.scope.proofs.Bits.{has-zero}
-use Rattle.sets.specs.Value.{value}
+use Rattle.scope.specs.Text.Re.{size}
+use Rattle.scope.specs.Text.Tree.{Tree, nothing, empty, position, group, starred, beside, either, expr, places}
+use Rattle.scope.proofs.Positions.Bits.{has-zero}
+use Rattle.sets.specs.Value.{setValue}
 use Rattle.sets.proofs.Words.{set-none}
 use Rattle.pattern.specs.declared.Shape.{Shape}
-use Rattle.shapes.specs.declared.Part.{Part}
+use Rattle.fragments.specs.declared.Fragment.{Fragment}
 use Rattle.sets.specs.Layout.{byteSet, byteSets, held, wordSets}
-use Rattle.factors.specs.Tails.{closes, Whole}
-use Rattle.factors.specs.Answer.{Ready, Answer}
-use Rattle.pattern.specs.Reading.{Judged, Clear, Reading}
+use Rattle.factors.specs.Tails.{closesExpr, WholeLevel}
+use Rattle.factors.specs.Answer.{Readable, Answer}
+use Rattle.pattern.specs.PatternSets.{Faultless, Clear, Reading}
 use Rattle.pattern.proofs.Tails.{ready}
 
 -- a tree has a place for each position
@@ -38,15 +38,15 @@ places-size (starred t) = places-size t
 places-size (beside t u) = simp length-append (omega (arith, places-size t, places-size u))
 places-size (either t u) = simp length-append (omega (arith, places-size t, places-size u))
 
-whole : (s : List ℕ) (t : Tree) → Pattern s t → Whole exprs s 0 (length s) t
-unfolding closes
+whole : (s : List ℕ) (t : Tree) → Pattern s t → WholeLevel exprs s 0 (length s) t
+unfolding closesExpr
 whole s t r = (r, rw (List·getD-eq-default s 256 {n = length s} (omega arith)) refl)
 
-pub ready-text : {s : List ℕ} → Judged s → Ready exprs 0 s 0
+pub ready-text : {s : List ℕ} → Faultless s → Readable exprs 0 s 0
 ready-text {s} p = ready exprs (p .short) (whole s (p .tree) (p .sized .pattern)) (omega (arith, places-size (p .tree), p .sized .brief))
 
-pub reading : {s y y′ w w′ : List ℕ} {g : Part} {r : Shape} → Clear byteSets y → Clear wordSets w → Answer exprs s 0 0 y y′ w w′ g
-    → r .size ≡ g .count → r .null ≡ g .null → value (r .first .words) ≡ value (g .first .words) → value (r .last .words) ≡ value (g .last .words) → Reading s y y′ w w′ r
+pub reading : {s y y′ w w′ : List ℕ} {g : Fragment} {r : Shape} → Clear byteSets y → Clear wordSets w → Answer exprs s 0 0 y y′ w w′ g
+    → r .size ≡ g .count → r .null ≡ g .null → setValue (r .first .words) ≡ setValue (g .first .words) → setValue (r .last .words) ≡ setValue (g .last .words) → Reading s y y′ w w′ r
 unfolding held
 reading {s} {y} {w = w} cy cw a es en ef el = record {
   says = λ t h.

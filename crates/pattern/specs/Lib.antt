@@ -1,1 +1,1 @@
-pub mod Reading
+pub mod PatternSets

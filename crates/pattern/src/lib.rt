@@ -2,7 +2,7 @@
 mod readers;
 
 ghost use Rattle.sets.specs.Layout.{byteSets, wordSets};
-ghost use Rattle.pattern.specs.Reading.{Judged, Clear, Reading};
+ghost use Rattle.pattern.specs.PatternSets.{Faultless, Clear, Reading};
 use sets::Set;
 
 // The sets of a pattern, and how many positions it has.
@@ -16,7 +16,7 @@ pub struct Shape {
 // The sets of a judged text. What follows each position comes into the words, as their set number p; the bytes that it holds come into the bytes, 32 for
 // each position. Both are zero before.
 pub fn read(text: &[u8], bytes: &mut [u8], words: &mut [u64]) -> Shape
-    requires { ⌜ Judged (now text) ⌝ }
+    requires { ⌜ Faultless (now text) ⌝ }
     requires { ⌜ Clear byteSets (now bytes) × Clear wordSets (now words) ⌝ }
     ensures { λ r. ⌜ Reading (now (text .entry)) (now (bytes .entry)) (now (bytes .exit)) (now (words .entry)) (now (words .exit)) r ⌝ }
 {

@@ -2,22 +2,22 @@
 // something to read, so it never refuses. A judged text has at most 32 nested parentheses: at most 33 calls of each reader are open at a time.
 ghost use mathlib.Core.Bool.{not};
 ghost use mathlib.Core.Path.{_≡_};
-ghost use Rattle.scope.specs.Grammar.{atoms, factors, branches, exprs};
+ghost use Rattle.scope.specs.Text.Grammar.{atoms, factors, branches, exprs};
 ghost use Rattle.factors.specs.Tails.{stops};
-ghost use Rattle.factors.specs.Answer.{Ready, Answer};
-ghost use Rattle.pattern.specs.Reading.{Rooms};
+ghost use Rattle.factors.specs.Answer.{Readable, Answer};
+ghost use Rattle.pattern.specs.PatternSets.{Rooms};
 use factors::leaf;
 use factors::stars;
+use fragments::Fragment;
+use fragments::beside;
+use fragments::either;
+use fragments::link;
+use fragments::moved;
 use leaves::text::BAR;
 use leaves::text::CLOSE;
 use leaves::text::END;
 use leaves::text::OPEN;
 use leaves::text::byte_at;
-use shapes::Part;
-use shapes::beside;
-use shapes::either;
-use shapes::link;
-use shapes::moved;
 
 // Whether a branch goes on with b.
 fn goes_on(b: usize) -> bool
@@ -33,8 +33,8 @@ fn goes_on(b: usize) -> bool
 }
 
 // An atom: an expression in parentheses, or a leaf.
-fn atom(text: &[u8], at: usize, count: usize, bytes: &mut [u8], words: &mut [u64]) -> Part
-    requires { ⌜ Ready atoms count (now text) at × Rooms (now bytes) (now words) ⌝ }
+fn atom(text: &[u8], at: usize, count: usize, bytes: &mut [u8], words: &mut [u64]) -> Fragment
+    requires { ⌜ Readable atoms count (now text) at × Rooms (now bytes) (now words) ⌝ }
     ensures { λ r. ⌜ Answer atoms (now (text .entry)) at count (now (bytes .entry)) (now (bytes .exit)) (now (words .entry)) (now (words .exit)) r ⌝ }
 {
     if byte_at(text, at) == OPEN {
@@ -46,8 +46,8 @@ fn atom(text: &[u8], at: usize, count: usize, bytes: &mut [u8], words: &mut [u64
 }
 
 // A factor: an atom and its stars.
-fn factor(text: &[u8], at: usize, count: usize, bytes: &mut [u8], words: &mut [u64]) -> Part
-    requires { ⌜ Ready factors count (now text) at × Rooms (now bytes) (now words) ⌝ }
+fn factor(text: &[u8], at: usize, count: usize, bytes: &mut [u8], words: &mut [u64]) -> Fragment
+    requires { ⌜ Readable factors count (now text) at × Rooms (now bytes) (now words) ⌝ }
     ensures { λ r. ⌜ Answer factors (now (text .entry)) at count (now (bytes .entry)) (now (bytes .exit)) (now (words .entry)) (now (words .exit)) r ⌝ }
 {
     let part = atom(text, at, count, bytes, words);
@@ -55,8 +55,8 @@ fn factor(text: &[u8], at: usize, count: usize, bytes: &mut [u8], words: &mut [u
 }
 
 // A branch: factors side by side.
-fn branch(text: &[u8], at: usize, count: usize, bytes: &mut [u8], words: &mut [u64]) -> Part
-    requires { ⌜ Ready branches count (now text) at × Rooms (now bytes) (now words) ⌝ }
+fn branch(text: &[u8], at: usize, count: usize, bytes: &mut [u8], words: &mut [u64]) -> Fragment
+    requires { ⌜ Readable branches count (now text) at × Rooms (now bytes) (now words) ⌝ }
     ensures { λ r. ⌜ Answer branches (now (text .entry)) at count (now (bytes .entry)) (now (bytes .exit)) (now (words .entry)) (now (words .exit)) r ⌝ }
 {
     let mut all = factor(text, at, count, bytes, words);
@@ -69,8 +69,8 @@ fn branch(text: &[u8], at: usize, count: usize, bytes: &mut [u8], words: &mut [u
 }
 
 // An expression: branches joined by `|`.
-pub fn expr(text: &[u8], at: usize, count: usize, bytes: &mut [u8], words: &mut [u64]) -> Part
-    requires { ⌜ Ready exprs count (now text) at × Rooms (now bytes) (now words) ⌝ }
+pub fn expr(text: &[u8], at: usize, count: usize, bytes: &mut [u8], words: &mut [u64]) -> Fragment
+    requires { ⌜ Readable exprs count (now text) at × Rooms (now bytes) (now words) ⌝ }
     ensures { λ r. ⌜ Answer exprs (now (text .entry)) at count (now (bytes .entry)) (now (bytes .exit)) (now (words .entry)) (now (words .exit)) r ⌝ }
 {
     let mut all = branch(text, at, count, bytes, words);

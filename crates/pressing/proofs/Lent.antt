@@ -10,21 +10,21 @@ use native.Mathlib.Omega.{arith}
 use lib.ListN.{getD}
 use Rattle.scope.specs.Answers.{FORM}
 use Rattle.scope.specs.Limits.{byteValues}
-use Rattle.scope.proofs.Buffers.{all-kept}
-use Rattle.scope.proofs.Tests.{split}
-use Rattle.forms.specs.Form.{fieldLimit, formBytes, countOf, closedOf, Fields, DeskLent}
-use Rattle.forms.specs.Test.{Empty, Filled}
-use Rattle.forms.proofs.Texts.{empty-plain}
+use Rattle.scope.proofs.Operations.Buffers.{all-kept}
+use Rattle.scope.proofs.Counting.Tests.{split}
+use Rattle.entry_form.specs.EntryForm.{fieldLimit, formBytes, countOf, closedOf, Fields, DeskLent}
+use Rattle.entry_form.specs.ValidForm.{Empty, ClosedField}
+use Rattle.entry_form.proofs.Texts.{empty-plain}
 use Rattle.standings.proofs.Standings.{accepted-sound}
-use Rattle.entries.specs.Answers.{CLOSED}
-use Rattle.entries.specs.Key.{all-closed}
-use Rattle.entries.specs.Press.{Presses, answered}
-use Rattle.entries.proofs.Exact.{Found, valid-given}
-use Rattle.entries.proofs.Press.{refused}
+use Rattle.desk_rules.specs.DeskAnswers.{CLOSED}
+use Rattle.desk_rules.specs.Key.{all-closed}
+use Rattle.desk_rules.specs.Press.{Presses, answered}
+use Rattle.desk_rules.proofs.Exact.{ShownEntry, valid-given}
+use Rattle.desk_rules.proofs.Press.{refused}
 
 module _ {rooms form : List ℕ} (lent : DeskLent (countOf form) rooms form) where
   -- one with a closed field that is not filled
-  pub refused-filled : {key : ℕ} → closedOf form ≤ fieldLimit → (((f : ℕ) → f < closedOf form → Filled rooms form f) → ⊥) → Presses rooms form form key FORM
+  pub refused-filled : {key : ℕ} → closedOf form ≤ fieldLimit → (((f : ℕ) → f < closedOf form → ClosedField rooms form f) → ⊥) → Presses rooms form form key FORM
   refused-filled h n = refused lent (λ s v. n (λ f k. record { plain = v .plain f (omega arith); accepted = v .closed f k }))
 
   -- ---- all fields are closed
@@ -35,12 +35,12 @@ module _ {rooms form : List ℕ} (lent : DeskLent (countOf form) rooms form) whe
     refused-empty n = refused lent (λ s v. n (λ g h k. v .later g h (inr (omega arith))))
 
     -- 13, for every key
-    pub presses-all : {key : ℕ} → ((i : ℕ) → getD form i 0 < byteValues) → ((f : ℕ) → f < closedOf form → Filled rooms form f)
+    pub presses-all : {key : ℕ} → ((i : ℕ) → getD form i 0 < byteValues) → ((f : ℕ) → f < closedOf form → ClosedField rooms form f)
         → ((g : ℕ) → g < fieldLimit → closedOf form ≤ g → Empty form g) → Presses rooms form form key CLOSED
     presses-all known filled empty = answered lent (record { sound = λ f h. accepted-sound (filled f (omega arith) .accepted); given = found .given })
         (all-closed (found .closed ∙ all)) (found .given .shows) (all-kept form formBytes)
       where
-        found : Found rooms form
+        found : ShownEntry rooms form
         found = valid-given (lent .form-long) known (record {
           fields = fields;
           within = omega arith;

@@ -18,7 +18,7 @@ use Rattle.scope.specs.Limits.{wordBytes}
 use Rattle.scope.specs.Answers.{DONE, SAME}
 use Rattle.scope.specs.Lines.{Side, Outcome, decimal, shown, sideLine, outcomeLines, printed}
 use Rattle.put_lines.specs.Printing.{counted, told}
-use Rattle.pieces.proofs.Numerals.{decimal-short, shown-short}
+use Rattle.line_pieces.proofs.Numerals.{decimal-short, shown-short}
 
 -- ---- by pieces
 

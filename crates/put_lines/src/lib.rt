@@ -4,7 +4,7 @@ ghost use Prim.Native.Nat.{_+_, _≤_};
 ghost use lib.ListN.{length};
 ghost use Rattle.scope.specs.Limits.{wordBytes};
 ghost use Rattle.scope.specs.Lines.{outcomeLines, printed};
-ghost use Rattle.pieces.specs.Appended.{Appended};
+ghost use Rattle.line_pieces.specs.Appended.{Appended};
 ghost use Rattle.put_lines.specs.Printing.{sideOf, outcome, counted, told};
 use scope::Machine;
 
@@ -41,11 +41,11 @@ fn put_counts(
     requires { ⌜ at + length (counted (now before) first (now between) second) ≤ length (now out) ⌝ }
     ensures { λ r. ⌜ Appended (now (out .entry)) (now (out .exit)) at (counted (now (before .entry)) first (now (between .entry)) second) r ⌝ }
 {
-    let next = pieces::put_text(out, at, before);
-    let next = pieces::put_decimal(out, next, first);
-    let next = pieces::put_text(out, next, between);
-    let next = pieces::put_decimal(out, next, second);
-    pieces::put_byte(out, next, b'\n')
+    let next = line_pieces::put_text(out, at, before);
+    let next = line_pieces::put_decimal(out, next, first);
+    let next = line_pieces::put_text(out, next, between);
+    let next = line_pieces::put_decimal(out, next, second);
+    line_pieces::put_byte(out, next, b'\n')
 }
 
 // Puts the line of one side.
@@ -53,7 +53,7 @@ fn put_side(out: &mut [u8], at: usize, name: &[u8], side: Side) -> usize
     requires { ⌜ at + length (now name ++ told (sideOf side)) ≤ length (now out) ⌝ }
     ensures { λ r. ⌜ Appended (now (out .entry)) (now (out .exit)) at (now (name .entry) ++ told (sideOf side)) r ⌝ }
 {
-    let next = pieces::put_text(out, at, name);
+    let next = line_pieces::put_text(out, at, name);
     if side.number == DONE {
         return put_counts(
             out,
@@ -80,9 +80,9 @@ fn put_outcome(out: &mut [u8], at: usize, number: u8, rounds: usize, word: &[u8]
     ensures { λ r. ⌜ Appended (now (out .entry)) (now (out .exit)) at (outcomeLines (outcome number rounds (now (word .entry)))) r ⌝ }
 {
     if number == SAME {
-        let next = pieces::put_text(out, at, b"same rounds ");
-        let next = pieces::put_decimal(out, next, rounds);
-        return pieces::put_byte(out, next, b'\n');
+        let next = line_pieces::put_text(out, at, b"same rounds ");
+        let next = line_pieces::put_decimal(out, next, rounds);
+        return line_pieces::put_byte(out, next, b'\n');
     }
     let next = put_counts(
         out,
@@ -92,9 +92,9 @@ fn put_outcome(out: &mut [u8], at: usize, number: u8, rounds: usize, word: &[u8]
         b" rounds ",
         rounds,
     );
-    let next = pieces::put_text(out, next, b"word ");
-    let next = pieces::put_word(out, next, word);
-    pieces::put_byte(out, next, b'\n')
+    let next = line_pieces::put_text(out, next, b"word ");
+    let next = line_pieces::put_word(out, next, word);
+    line_pieces::put_byte(out, next, b'\n')
 }
 
 // Puts the program's lines at the start of `out`; answers how many bytes they are.

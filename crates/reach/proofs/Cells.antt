@@ -15,19 +15,19 @@ use lib.Bits.{bitAnd}
 use lib.ListN.{length, set}
 use lib.Seq.{getD-set-same, getD-set-other}
 use Rattle.scope.specs.Limits.{classLimit, stateLimit, cellsAt, roomBytes, setWords}
-use Rattle.scope.specs.Re.{Re, size}
-use Rattle.scope.specs.Bits.{move}
-use Rattle.scope.specs.Reached.{ReachedSet, ManySets}
-use Rattle.scope.proofs.Reached.{reached-next}
-use Rattle.scope.proofs.Room.{flat-in}
-use Rattle.slices.proofs.Numbered.{numbered-old, numbered-new}
+use Rattle.scope.specs.Text.Re.{Re, size}
+use Rattle.scope.specs.Positions.Bits.{move}
+use Rattle.scope.specs.Positions.Reached.{ReachedSet, ManySets}
+use Rattle.scope.proofs.Positions.Reached.{reached-next}
+use Rattle.scope.proofs.Machines.Room.{flat-in}
+use Rattle.buffers.proofs.Numbered.{numbered-old, numbered-new}
 use Rattle.sets.specs.Value.{setAt}
-use Rattle.classes.specs.declared.Counted.the-variants.{Few, Many}
-use Rattle.classes.proofs.Count.{over-one}
+use Rattle.byte_classes.specs.declared.Counted.the-variants.{Few, Many}
+use Rattle.byte_classes.proofs.NumbersMet.{over-one}
 use Rattle.sets.specs.Layout.{setsAt}
-use Rattle.seats.specs.Layout.{setOf, Kept}
+use Rattle.seats.specs.SeatLayout.{reachedSet, KeptOutside}
 use Rattle.seats.specs.Seats.{Seated}
-use Rattle.reach.specs.Reach.{follows, MasksOf, cellAt, target, Rows, Fits, Row, RowAnswer}
+use Rattle.reach.specs.Reach.{follows, MasksOf, cellAt, target, ReachedRows, RowFits, RowStart, RowAnswer}
 use Rattle.seats.proofs.Kept.{kept-none, kept-wide, kept-join, kept-set, kept-sets}
 
 -- ---- rows of k cells
@@ -44,12 +44,12 @@ pub row-fits : (k q : ℕ) → k ≤ classLimit → q < stateLimit → cellsAt +
 row-fits k q h l = omega (arith, mul-le-mul l h, suc-mul q k)
 
 -- where a cell leads
-pub rows-leads : {e : Re} {k : ℕ} {mask set cell : ℕ → ℕ} {n filled : ℕ} → Rows e k mask set cell n filled → (q c : ℕ) → c < k → q * k + c < filled
+pub rows-leads : {e : Re} {k : ℕ} {mask set cell : ℕ → ℕ} {n filled : ℕ} → ReachedRows e k mask set cell n filled → (q c : ℕ) → c < k → q * k + c < filled
     → set (cell (q * k + c)) ≡ bitAnd (follows e (set q)) (mask c)
 rows-leads {k = k} r q c h l = rw (flat-row k q c h, flat-class k q c h) at (r .numbered .like (q * k + c) l)
 
 -- the cell for the state q and the class c comes after the cells x; h, y: the sets and cells with it
-module _ (e : Re) (k : ℕ) (mask g x h y : ℕ → ℕ) (n q c : ℕ) (r : Rows e k mask g x n (q * k + c)) (hq : q < n) (hc : c < k)
+module _ (e : Re) (k : ℕ) (mask g x h y : ℕ → ℕ) (n q c : ℕ) (r : ReachedRows e k mask g x n (q * k + c)) (hq : q < n) (hc : c < k)
     (kept : (j : ℕ) → j < n → h j ≡ g j) (same : (j : ℕ) → j < q * k + c → y j ≡ x j) where
   -- the cells before it lead to the same sets
   target-kept : (i : ℕ) → i < q * k + c → target e k mask h i ≡ target e k mask g i
@@ -59,7 +59,7 @@ module _ (e : Re) (k : ℕ) (mask g x h y : ℕ → ℕ) (n q c : ℕ) (r : Rows
   to = ap₂ (λ (p d : ℕ). bitAnd (follows e (h p)) (mask d)) (flat-row k q c hc) (flat-class k q c hc)
 
   -- it leads to a set that is there
-  rows-old : y (q * k + c) < n → h (y (q * k + c)) ≡ bitAnd (follows e (h q)) (mask c) → Rows e k mask h y n (q * k + c + 1)
+  rows-old : y (q * k + c) < n → h (y (q * k + c)) ≡ bitAnd (follows e (h q)) (mask c) → ReachedRows e k mask h y n (q * k + c + 1)
   rows-old v leads = record {
     begins = kept 0 (r .numbered .some) ∙ r .begins;
     few = r .few;
@@ -70,7 +70,7 @@ module _ (e : Re) (k : ℕ) (mask g x h y : ℕ → ℕ) (n q c : ℕ) (r : Rows
 
   -- it leads to the next
   rows-new : n < stateLimit → y (q * k + c) ≡ n → h n ≡ bitAnd (follows e (h q)) (mask c) → ReachedSet e (h n) → ((j : ℕ) → j < n → g j ≡ h n → ⊥)
-      → Rows e k mask h y (n + 1) (q * k + c + 1)
+      → ReachedRows e k mask h y (n + 1) (q * k + c + 1)
   rows-new room v leads reach ne = record {
     begins = kept 0 (r .numbered .some) ∙ r .begins;
     few = omega arith;
@@ -81,12 +81,12 @@ module _ (e : Re) (k : ℕ) (mask g x h y : ℕ → ℕ) (n q c : ℕ) (r : Rows
 
 module _ (e : Re) (k : ℕ) (mask : ℕ → ℕ) where
   -- as many sets as there may be, and one more
-  sets-many : (g x : ℕ → ℕ) (n i s : ℕ) → n ≡ stateLimit → Rows e k mask g x n i → ReachedSet e s → ((j : ℕ) → j < n → g j ≡ s → ⊥) → ManySets e
+  sets-many : (g x : ℕ → ℕ) (n i s : ℕ) → n ≡ stateLimit → ReachedRows e k mask g x n i → ReachedSet e s → ((j : ℕ) → j < n → g j ≡ s → ⊥) → ManySets e
   sets-many g x n i s full r reach ne =
       rw full at (over-one (ReachedSet e) (λ (s t : ℕ). s ≡ t) n (λ j h. g j) s (r .reached) reach (λ j p h l a. r .numbered .apart j p l a) ne)
 
   -- where a mask is that of a byte, the set is reached
-  reach-common : (g x : ℕ → ℕ) (n i q c : ℕ) → MasksOf e k mask → Rows e k mask g x n i → q < n → c < k → ReachedSet e (bitAnd (follows e (g q)) (mask c))
+  reach-common : (g x : ℕ → ℕ) (n i q c : ℕ) → MasksOf e k mask → ReachedRows e k mask g x n i → q < n → c < k → ReachedSet e (bitAnd (follows e (g q)) (mask c))
   unfolding move
   reach-common g x n i q c m r hq hc = let (b, l, z) = m c hc in rw z (reached-next e (g q) b (r .reached q hq) l)
 
@@ -97,9 +97,9 @@ pub record Filling (o w m : List ℕ) (k q n u : ℕ) (o₁ w₁ : List ℕ) (n�
   pub within : c ≤ k
   pub more : n ≤ n₁
   pub few : n₁ ≤ stateLimit
-  pub image : Kept o o₁ (cellsAt + q * k) (cellsAt + q * k + k)
-  pub words : Kept w w₁ ((setsAt + n) * setWords) ((setsAt + stateLimit) * setWords)
-  pub rows : (e : Re) → Row e o w m k q n u → Rows e k (setAt m) (setOf w₁) (cellAt o₁) n₁ (q * k + c)
+  pub image : KeptOutside o o₁ (cellsAt + q * k) (cellsAt + q * k + k)
+  pub words : KeptOutside w w₁ ((setsAt + n) * setWords) ((setsAt + stateLimit) * setWords)
+  pub rows : (e : Re) → RowStart e o w m k q n u → ReachedRows e k (setAt m) (reachedSet w₁) (cellAt o₁) n₁ (q * k + c)
 
 -- no cell
 pub filling-none : (o w m : List ℕ) (k q n u : ℕ) → n ≤ stateLimit → Filling o w m k q n u o w n 0
@@ -113,20 +113,20 @@ filling-none o w m k q n u h = record {
 }
 
 -- w₂: the words with the set s seated as number r, what the union and the mask x of the class c have in common
-module _ {o w m : List ℕ} {k q n u : ℕ} {o₁ w₁ : List ℕ} {n₁ c : ℕ} {w₂ : List ℕ} {s r x : ℕ} (t : Fits o w m k q n)
+module _ {o w m : List ℕ} {k q n u : ℕ} {o₁ w₁ : List ℕ} {n₁ c : ℕ} {w₂ : List ℕ} {s r x : ℕ} (t : RowFits o w m k q n)
     (f : Filling o w m k q n u o₁ w₁ n₁ c) (hc : c < k) (z : Seated w₁ w₂ n₁ s r) (es : s ≡ bitAnd u x) (ex : x ≡ setAt m c) where
-  kept : (i : ℕ) → i < n₁ → setOf w₂ i ≡ setOf w₁ i
+  kept : (i : ℕ) → i < n₁ → reachedSet w₂ i ≡ reachedSet w₁ i
   kept i h = kept-sets (z .kept) (setsAt + i) (omega arith)
 
-  words : Kept w w₂ ((setsAt + n) * setWords) ((setsAt + stateLimit) * setWords)
+  words : KeptOutside w w₂ ((setsAt + n) * setWords) ((setsAt + stateLimit) * setWords)
   words = kept-join (f .words) (kept-wide (z .kept) _ _ (omega (arith, f .more)) (omega arith))
 
-  module _ (e : Re) (row : Row e o w m k q n u) where
-    leads : s ≡ bitAnd (follows e (setOf w₁ q)) (setAt m c)
+  module _ (e : Re) (row : RowStart e o w m k q n u) where
+    leads : s ≡ bitAnd (follows e (reachedSet w₁ q)) (setAt m c)
     leads = es ∙ ap₂ bitAnd (row .union ∙ ap (follows e) (sym (kept-sets (f .words) (setsAt + q) (omega (arith, t .row))))) ex
 
     reach : ReachedSet e s
-    reach = rw leads (reach-common e k (setAt m) (setOf w₁) (cellAt o₁) n₁ (q * k + c) q c (row .masks) (f .rows e row) (omega (arith, t .row, f .more)) hc)
+    reach = rw leads (reach-common e k (setAt m) (reachedSet w₁) (cellAt o₁) n₁ (q * k + c) q c (row .masks) (f .rows e row) (omega (arith, t .row, f .more)) hc)
 
   -- a set too many
   pub filling-full : r ≡ stateLimit → RowAnswer o w m k q n u o₁ w₂ Many
@@ -134,7 +134,7 @@ module _ {o w m : List ℕ} {k q n u : ℕ} {o₁ w₁ : List ℕ} {n₁ c : ℕ
     image = f .image;
     words = words;
     rows = λ e row. (let l : n₁ ≡ stateLimit = omega (arith, z .most, f .few) in
-        sets-many e k (setAt m) (setOf w₁) (cellAt o₁) n₁ (q * k + c) s l (f .rows e row) (reach e row) (z .new (y ∙ sym l)));
+        sets-many e k (setAt m) (reachedSet w₁) (cellAt o₁) n₁ (q * k + c) s l (f .rows e row) (reach e row) (z .new (y ∙ sym l)));
   }
 
   module _ (ne : r ≡ stateLimit → ⊥) where
@@ -150,11 +150,11 @@ module _ {o w m : List ℕ} {k q n u : ℕ} {o₁ w₁ : List ℕ} {n₁ c : ℕ
     here : cellAt (set o₁ (cellsAt + q * k + c) r) (q * k + c) ≡ r
     here = rw (add-assoc cellsAt (q * k) c) (getD-set-same o₁ (cellsAt + (q * k + c)) r 0 fits)
 
-    to-it : (e : Re) → Row e o w m k q n u → s ≡ bitAnd (follows e (setOf w₂ q)) (setAt m c)
+    to-it : (e : Re) → RowStart e o w m k q n u → s ≡ bitAnd (follows e (reachedSet w₂ q)) (setAt m c)
     to-it e row = leads e row ∙ ap (λ (i : ℕ). bitAnd (follows e i) (setAt m c)) (sym (kept q (omega (arith, t .row, f .more))))
 
     filling : (n₂ : ℕ) → n₁ ≤ n₂ → n₂ ≤ stateLimit
-        → ((e : Re) → Row e o w m k q n u → Rows e k (setAt m) (setOf w₂) (cellAt (set o₁ (cellsAt + q * k + c) r)) n₂ (q * k + c + 1))
+        → ((e : Re) → RowStart e o w m k q n u → ReachedRows e k (setAt m) (reachedSet w₂) (cellAt (set o₁ (cellsAt + q * k + c) r)) n₂ (q * k + c + 1))
         → Filling o w m k q n u (set o₁ (cellsAt + q * k + c) r) w₂ n₂ (c + 1)
     filling n₂ le few rows = record {
       within = omega arith;
@@ -168,15 +168,15 @@ module _ {o w m : List ℕ} {k q n u : ℕ} {o₁ w₁ : List ℕ} {n₁ c : ℕ
     -- the set was there
     pub filling-old : (r ≡ n₁ → ⊥) → Filling o w m k q n u (set o₁ (cellsAt + q * k + c) r) w₂ n₁ (c + 1)
     filling-old y = filling n₁ (omega arith) (f .few)
-        (λ e row. rows-old e k (setAt m) (setOf w₁) (cellAt o₁) (setOf w₂) (cellAt (set o₁ (cellsAt + q * k + c) r)) n₁ q c (f .rows e row) (omega (arith, t .row, f .more)) hc
-        kept before (omega (arith, here, z .most)) (ap (setOf w₂) here ∙ z .here small ∙ to-it e row))
+        (λ e row. rows-old e k (setAt m) (reachedSet w₁) (cellAt o₁) (reachedSet w₂) (cellAt (set o₁ (cellsAt + q * k + c) r)) n₁ q c (f .rows e row) (omega (arith, t .row, f .more)) hc
+        kept before (omega (arith, here, z .most)) (ap (reachedSet w₂) here ∙ z .here small ∙ to-it e row))
 
     -- the set is new
     pub filling-new : r ≡ n₁ → Filling o w m k q n u (set o₁ (cellsAt + q * k + c) r) w₂ (n₁ + 1) (c + 1)
     filling-new y =
-        let new : setOf w₂ n₁ ≡ s = rw (← y) (z .here small) in
+        let new : reachedSet w₂ n₁ ≡ s = rw (← y) (z .here small) in
         filling (n₁ + 1) (omega arith) (omega (arith, small))
-        (λ e row. rows-new e k (setAt m) (setOf w₁) (cellAt o₁) (setOf w₂) (cellAt (set o₁ (cellsAt + q * k + c) r)) n₁ q c (f .rows e row) (omega (arith, t .row, f .more)) hc
+        (λ e row. rows-new e k (setAt m) (reachedSet w₁) (cellAt o₁) (reachedSet w₂) (cellAt (set o₁ (cellsAt + q * k + c) r)) n₁ q c (f .rows e row) (omega (arith, t .row, f .more)) hc
         kept before (omega (arith, small)) (here ∙ y) (new ∙ to-it e row) (rw new (reach e row)) (λ j l v. z .new y j l (v ∙ new)))
 
 -- the row is full

@@ -1,4 +1,4 @@
 -- The laws of the search, one file a notion.
 pub mod Passing
 pub mod Cells
-pub mod Filled
+pub mod RowsFilled

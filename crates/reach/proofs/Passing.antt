@@ -12,11 +12,11 @@ use lib.Bits.{bitOr}
 use lib.Count.{trailingZeros}
 use lib.ListN.{getD}
 use lib.Pow.{shr-shr, shr-le}
-use Rattle.scope.specs.Bits.{has, joined}
-use Rattle.scope.proofs.Bits.{has-shr, trailing-none, trailing-one, has-small, has-zero}
-use Rattle.sets.specs.Value.{setBits, setAt, value}
+use Rattle.scope.specs.Positions.Bits.{has, joined}
+use Rattle.scope.proofs.Positions.Bits.{has-shr, trailing-none, trailing-one, has-small, has-zero}
+use Rattle.sets.specs.Value.{setBits, setAt, setValue}
 use Rattle.sets.proofs.Words.{has-at}
-use Rattle.classes.proofs.Unions.{joined-with, joined-skip}
+use Rattle.byte_classes.proofs.Unions.{joined-with, joined-skip}
 use Rattle.reach.specs.Reach.{followOf, WordAnswer}
 
 pub record Passing (m : List ℕ) (w x u rest r at : ℕ) : Type 0 where
@@ -68,7 +68,7 @@ module _ {m : List ℕ} {w x u rest r at : ℕ} (p : Passing m w x u rest r at) 
         }
 
 -- the word number w of a set
-pub word-bits : (s : List ℕ) (w : ℕ) → 64 * w + 64 ≤ setBits → (j : ℕ) → j < 64 → has (value s) (64 * w + j) ≡ has (getD s w 0) j
+pub word-bits : (s : List ℕ) (w : ℕ) → 64 * w + 64 ≤ setBits → (j : ℕ) → j < 64 → has (setValue s) (64 * w + j) ≡ has (getD s w 0) j
 word-bits s w h j l =
     let d : (64 * w + j) / 64 ≡ w = omega arith in
     let r : (64 * w + j) % 64 ≡ j = omega arith in

@@ -4,12 +4,12 @@ ghost use mathlib.Core.Path.{_≡_};
 ghost use Prim.Native.Nat.{_*_, _<_, _≤_};
 ghost use lib.ListN.{length};
 ghost use Rattle.scope.specs.Limits.{setWords};
-ghost use Rattle.scope.specs.Bits.{joined};
-ghost use Rattle.sets.specs.Value.{setBits, value};
-ghost use Rattle.seats.specs.Layout.{setOf};
+ghost use Rattle.scope.specs.Positions.Bits.{joined};
+ghost use Rattle.sets.specs.Value.{setBits, setValue};
+ghost use Rattle.seats.specs.SeatLayout.{reachedSet};
 ghost use Rattle.seats.specs.Seats.{Guesses};
-ghost use Rattle.reach.specs.Reach.{followOf, WordAnswer, GuessesFor, Fits, RowAnswer, RowsAnswer};
-use classes::Counted;
+ghost use Rattle.reach.specs.Reach.{followOf, WordAnswer, GuessesFor, RowFits, RowAnswer, RowsAnswer};
+use byte_classes::Counted;
 use scope::Machine;
 use seats::GUESSES;
 use seats::NO_GUESS;
@@ -20,7 +20,7 @@ use sets::layout::SETS_AT;
 // `others` with the follow sets of the positions of one word of a set: the word number w, with the bits x. What is not in the set is passed over by a shift.
 fn follows_word(words: &[u64], w: usize, x: u64, others: Set) -> Set
     requires { ⌜ (w < setWords) × (setBits * setWords ≤ length (now words)) ⌝ }
-    ensures { λ r. ⌜ WordAnswer (now (words .entry)) w x (value (others .words)) (value (r .words)) ⌝ }
+    ensures { λ r. ⌜ WordAnswer (now (words .entry)) w x (setValue (others .words)) (setValue (r .words)) ⌝ }
 {
     let mut union = others;
     let mut rest = x;
@@ -37,7 +37,7 @@ fn follows_word(words: &[u64], w: usize, x: u64, others: Set) -> Set
 // The positions that follow those of the set s.
 fn follows(words: &[u64], s: Set) -> Set
     requires { ⌜ setBits * setWords ≤ length (now words) ⌝ }
-    ensures { λ r. ⌜ value (r .words) ≡ joined (followOf (now (words .entry)) (value (s .words))) setBits ⌝ }
+    ensures { λ r. ⌜ setValue (r .words) ≡ joined (followOf (now (words .entry)) (setValue (s .words))) setBits ⌝ }
 {
     let mut union = Set::none();
     let mut w: usize = 0;
@@ -59,9 +59,9 @@ fn row(
     n: usize,
     union: Set,
 ) -> Counted
-    requires { ⌜ Fits (now image) (now words) (now masks) k q n × Guesses (now words) (now guesses) n ⌝ }
+    requires { ⌜ RowFits (now image) (now words) (now masks) k q n × Guesses (now words) (now guesses) n ⌝ }
     ensures { λ r. ⌜ GuessesFor (now (words .exit)) (now (guesses .exit)) r ⌝ }
-    ensures { λ r. ⌜ RowAnswer (now (image .entry)) (now (words .entry)) (now (masks .entry)) k q n (value (union .words)) (now (image .exit)) (now (words .exit)) r ⌝ }
+    ensures { λ r. ⌜ RowAnswer (now (image .entry)) (now (words .entry)) (now (masks .entry)) k q n (setValue (union .words)) (now (image .exit)) (now (words .exit)) r ⌝ }
 {
     let at = Machine::CELLS_AT + q * k;
     let mut m = n;
@@ -82,8 +82,8 @@ fn row(
 
 // Fills the rows of all reached sets, of which {0} is there: the number of reached sets.
 pub fn rows(image: &mut [u8], words: &mut [u64], masks: &[u64], k: usize) -> Counted
-    requires { ⌜ Fits (now image) (now words) (now masks) k 0 1 ⌝ }
-    requires { ⌜ setOf (now words) 0 ≡ 1 ⌝ }
+    requires { ⌜ RowFits (now image) (now words) (now masks) k 0 1 ⌝ }
+    requires { ⌜ reachedSet (now words) 0 ≡ 1 ⌝ }
     ensures { λ r. ⌜ RowsAnswer (now (image .entry)) (now (words .entry)) (now (masks .entry)) k (now (image .exit)) (now (words .exit)) r ⌝ }
 {
     let mut guesses = [NO_GUESS; GUESSES];

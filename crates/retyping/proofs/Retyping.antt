@@ -9,15 +9,15 @@ use native.Mathlib.Omega.{arith}
 use native.Mathlib.Decide.{ℕ-discrete}
 use lib.ListN.{length, getD, set, take, length-set, length-take, length-append, List·getD-eq-default, List·getD-append}
 use lib.Seq.{getD-set-same, getD-set-other, getD-take, getD-append-seam}
-use Rattle.scope.proofs.Tests.{split}
-use Rattle.forms.specs.Form.{fieldLimit, textLimit, lengthsAt, textsAt, formBytes, lengthOf, byteOf, textOf}
-use Rattle.forms.specs.Test.{Plain}
-use Rattle.forms.proofs.Texts.{text-length, text-byte}
+use Rattle.scope.proofs.Counting.Tests.{split}
+use Rattle.entry_form.specs.EntryForm.{fieldLimit, textLimit, lengthsAt, textsAt, formBytes, lengthOf, entryByte, textOf}
+use Rattle.entry_form.specs.ValidForm.{Plain}
+use Rattle.entry_form.proofs.Texts.{text-length, text-byte}
 use Rattle.retyping.specs.Retype.{Retyped}
 
 module _ {form : List ℕ} {f : ℕ} (h : f < fieldLimit) (l : formBytes ≤ length form) where
   -- the byte i of the text is v, the others are those of the form, and there are n
-  stored : (i v n : ℕ) (t : List ℕ) → i < textLimit → n ≡ length t → v ≡ getD t i 0 → ((j : ℕ) → j < textLimit → (j ≡ i → ⊥) → byteOf form f j ≡ getD t j 0)
+  stored : (i v n : ℕ) (t : List ℕ) → i < textLimit → n ≡ length t → v ≡ getD t i 0 → ((j : ℕ) → j < textLimit → (j ≡ i → ⊥) → entryByte form f j ≡ getD t j 0)
       → Retyped form (set (set form (textsAt + f * textLimit + i) v) (lengthsAt + f) n) f t
   stored i v n t k e b o = record {
     size = length-set (set form at v) (lengthsAt + f) n ∙ length-set form at v;

@@ -1,12 +1,12 @@
 // Another text in a field: its last byte taken out, or one byte more.
-use forms::LENGTHS_AT;
-use forms::TEXT;
-use forms::TEXTS_AT;
+use entry_form::LENGTHS_AT;
+use entry_form::TEXT;
+use entry_form::TEXTS_AT;
 ghost use Prim.Native.Nat.{_-_, _<_, _≤_};
 ghost use mathlib.Core.List.{[], _∷_, _++_};
 ghost use lib.ListN.{length, take};
-ghost use Rattle.forms.specs.Form.{fieldLimit, textLimit, formBytes, lengthOf, textOf};
-ghost use Rattle.forms.specs.Test.{Plain};
+ghost use Rattle.entry_form.specs.EntryForm.{fieldLimit, textLimit, formBytes, lengthOf, textOf};
+ghost use Rattle.entry_form.specs.ValidForm.{Plain};
 ghost use Rattle.retyping.specs.Retype.{Retyped};
 
 // Takes the last byte out of the field f, if there is one.

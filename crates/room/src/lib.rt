@@ -4,9 +4,9 @@ ghost use mathlib.Core.Path.{_≡_};
 ghost use Prim.Native.Nat.{_<_, _≤_};
 ghost use lib.ListN.{length};
 ghost use Rattle.scope.specs.Limits.{classLimit, stateLimit, classesAt};
-ghost use Rattle.scope.specs.Buffers.{Written};
-ghost use Rattle.scope.specs.Room.{statesOf, classesOf, cellOf, nextOf, Below, Sound};
-ghost use Rattle.slices.specs.Parts.{Decides};
+ghost use Rattle.scope.specs.Operations.Buffers.{Written};
+ghost use Rattle.scope.specs.Machines.Room.{statesOf, classesOf, cellOf, nextOf, Below, Sound};
+ghost use Rattle.buffers.specs.Stored.{Decides};
 ghost use Rattle.room.specs.Head.{headByte};
 
 // The head of a room: how many states and classes it has.
@@ -34,7 +34,7 @@ fn are_below(room: &[u8], from: usize, to: usize, limit: usize) -> bool
     requires { ⌜ (to ≤ length (now room)) × (0 < limit) ⌝ }
     ensures { λ r. ⌜ Decides r (Below (now (room .entry)) from to limit) ⌝ }
 {
-    (slices::greatest(room, from, to) as usize) < limit
+    (buffers::greatest(room, from, to) as usize) < limit
 }
 
 // Whether a room is sound. The tail of a longer one is not read.
@@ -65,7 +65,7 @@ pub fn is_sound(room: &[u8]) -> bool
         && are_below(room, Machine::MARKS_AT, marks_end, 2)
         && are_below(room, marks_end, Machine::CELLS_AT, 1)
         && are_below(room, Machine::CELLS_AT, cells_end, n)
-        && slices::are_zero(room, cells_end, Machine::ROOM)
+        && buffers::are_zero(room, cells_end, Machine::ROOM)
 }
 
 // The cell for the state q and a class.

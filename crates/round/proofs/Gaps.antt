@@ -10,11 +10,11 @@ use mathlib.Core.List.{List}
 use native.Mathlib.Nat.{add-zero}
 use native.Mathlib.Omega.{arith}
 use lib.ListN.{length, getD}
-use Rattle.sides.specs.Side.{bothLimit}
-use Rattle.agree.specs.Parts.{First, Named, Alike, Agree}
+use Rattle.two_rooms.specs.Side.{bothLimit}
+use Rattle.parting.specs.Named.{LeastLike, Named, OnePart, Agree}
 use Rattle.signs.specs.Signs.{Gap, Steady, Stayed}
-use Rattle.round.proofs.Passes.{Passed, passed-stays}
-use Rattle.agree.proofs.Links.{place-still}
+use Rattle.round.proofs.Passes.{RoundPassed, passed-stays}
+use Rattle.parting.proofs.Links.{place-still}
 use Rattle.signs.proofs.Signs.{Seen, seen-gap, seen-calm, stayed-gap}
 
 -- what holds of q, and with each number of the next, holds of all from q on
@@ -26,7 +26,7 @@ up P q (suc k) d f =
 
 -- the states below q have their new parts; the signs of those that lead to one that moved are in stirred, and what is to be seen of the others in seen
 pub record Come (next : ℕ → ℕ → ℕ) (old new₀ new link parent parent′ born born′ from : List ℕ) (r : ℕ) (opened : Bool) (stirred touched seen q : ℕ) : Type 0 where
-  pub passed : Passed (Agree next old) old new₀ new link parent parent′ born born′ r opened q
+  pub passed : RoundPassed (Agree next old) old new₀ new link parent parent′ born born′ r opened q
   pub stayed : Stayed old new from q stirred
   pub watched : Seen old touched seen q
 
@@ -38,18 +38,18 @@ come-as e f g h i j k d = rw (e, f, g, h, i, j, k) d
 
 -- the states that are passed over
 pub come-gap : {next : ℕ → ℕ → ℕ} {old new₀ new link parent parent′ born born′ from : List ℕ} {r : ℕ} {opened : Bool} {stirred touched seen q n e : ℕ} → n ≤ bothLimit → length new₀ ≡ bothLimit
-    → Named (Alike old) old n → Steady next old n touched → ((x : ℕ) → x < n → getD new₀ x 0 ≡ getD old x 0) → (q ≤ e) × (e ≤ n) × Gap seen q e
+    → Named (OnePart old) old n → Steady next old n touched → ((x : ℕ) → x < n → getD new₀ x 0 ≡ getD old x 0) → (q ≤ e) × (e ≤ n) × Gap seen q e
     → Come next old new₀ new link parent parent′ born born′ from r opened stirred touched seen q → Come next old new₀ new link parent parent′ born born′ from r opened stirred touched seen e
 come-gap {next} {old} {new₀} {new} {link} {parent} {parent′} {born} {born′} {from} {r} {opened} {stirred} {touched} {seen} {q} {n} {e} few wide named steady same (low, high, gap) d = record {
   passed =
       let z : e ≡ q + (e - q) = omega arith in
-      rw z (up (Passed (Agree next old) old new₀ new link parent parent′ born born′ r opened) q (e - q) (d .passed)
+      rw z (up (RoundPassed (Agree next old) old new₀ new link parent parent′ born born′ r opened) q (e - q) (d .passed)
       (λ x l h p. passed-stays (Agree next old) old new₀ new link parent parent′ born born′ r opened x (omega arith) wide p (same x (omega arith)) (still x (omega arith) l)));
   stayed = stayed-gap (d .stayed) e (λ x h l. d .passed .named .kept x l ∙ same x (omega arith));
   watched = seen-gap (d .watched) e gap;
 }
   where
-    still : (x : ℕ) → x < e → q ≤ x → First (Agree next old) x (getD old x 0)
+    still : (x : ℕ) → x < e → q ≤ x → LeastLike (Agree next old) x (getD old x 0)
     still x h l =
         let f = named x (omega arith) in
         let (b, c) = seen-calm (d .watched) e gap x h l f in

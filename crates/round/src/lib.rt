@@ -8,11 +8,11 @@ ghost use mathlib.Core.Path.{_≡_};
 ghost use mathlib.Core.Bool.{true, false};
 ghost use Prim.Native.Nat.{ℕ, _≤_, _<_};
 ghost use lib.ListN.{length, getD, set};
-ghost use Rattle.slices.specs.Parts.{Decides};
-ghost use Rattle.sides.specs.Side.{bothLimit, both, Side};
-ghost use Rattle.sides.specs.Kinds.{ColumnsOf};
-ghost use Rattle.agree.specs.Parts.{Named, Renamed, Alike, Agree};
-ghost use Rattle.agree.specs.Rows.{Rows};
+ghost use Rattle.buffers.specs.Stored.{Decides};
+ghost use Rattle.two_rooms.specs.Side.{bothLimit, both, FirstStates};
+ghost use Rattle.two_rooms.specs.Kinds.{ColumnsOf};
+ghost use Rattle.parting.specs.Named.{Named, Renamed, OnePart, Agree};
+ghost use Rattle.parting.specs.CellRows.{CellRows};
 ghost use Rattle.signs.specs.Signs.{Steady, Stayed};
 ghost use Rattle.round.specs.Round.{Opening, Joining, Opened, Births};
 
@@ -22,10 +22,10 @@ fn shift(
     h: usize,
     p: usize,
     r: u16,
-    link: &mut [u16; sides::STATES],
-    next: &mut [u16; sides::STATES],
-    parent: &mut [u16; sides::STATES],
-    born: &mut [u16; sides::STATES],
+    link: &mut [u16; two_rooms::STATES],
+    next: &mut [u16; two_rooms::STATES],
+    parent: &mut [u16; two_rooms::STATES],
+    born: &mut [u16; two_rooms::STATES],
 ) -> bool
     requires { ⌜ (q < bothLimit) × (h < bothLimit) × (p < bothLimit) ⌝ }
     ensures { λ z. ⌜ now (next .exit) ≡ set (now (next .entry)) q p ⌝ }
@@ -53,21 +53,21 @@ pub fn round(
     right: &[u8; Machine::BYTES],
     count: usize,
     few: bool,
-    rows: &[u16; agree::ROWS],
-    from: &[u64; sides::STATES],
-    part: &[u16; sides::STATES],
+    rows: &[u16; parting::ROWS],
+    from: &[u64; two_rooms::STATES],
+    part: &[u16; two_rooms::STATES],
     touched: &mut u64,
-    link: &mut [u16; sides::STATES],
-    next: &mut [u16; sides::STATES],
-    parent: &mut [u16; sides::STATES],
-    born: &mut [u16; sides::STATES],
+    link: &mut [u16; two_rooms::STATES],
+    next: &mut [u16; two_rooms::STATES],
+    parent: &mut [u16; two_rooms::STATES],
+    born: &mut [u16; two_rooms::STATES],
     n: usize,
     r: u16,
 ) -> bool
-    requires { ⌜ Side (now a) (now b) n ⌝ }
+    requires { ⌜ FirstStates (now a) (now b) n ⌝ }
     requires { ⌜ ColumnsOf (now a) (now b) (now left) (now right) count ⌝ }
-    requires { ⌜ (few ≡ true → Rows (now a) (now b) (now left) (now right) count (now rows) n) ⌝ }
-    requires { ⌜ Named (Alike (now part)) (now part) n ⌝ }
+    requires { ⌜ (few ≡ true → CellRows (now a) (now b) (now left) (now right) count (now rows) n) ⌝ }
+    requires { ⌜ Named (OnePart (now part)) (now part) n ⌝ }
     requires { ⌜ (length (now next) ≡ bothLimit) × (length (now parent) ≡ bothLimit) × (length (now born) ≡ bothLimit) ⌝ }
     requires { ⌜ Steady ((both (now a) (now b)) .next) (now part) n (now touched) ⌝ }
     requires { ⌜ ((q : ℕ) → q < n → getD (now next) q 0 ≡ getD (now part) q 0) ⌝ }
@@ -86,7 +86,7 @@ pub fn round(
         let h = part[q] as usize;
         if h < q {
             if (signs::sign(q) | signs::sign(h)) & *touched != 0 {
-                let p = agree::walk(a, b, left, right, count, few, rows, part, link, q);
+                let p = parting::walk(a, b, left, right, count, few, rows, part, link, q);
                 if p != h {
                     stirred = stirred | from[q];
                     if shift(q, h, p, r, link, next, parent, born) {

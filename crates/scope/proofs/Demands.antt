@@ -9,17 +9,17 @@ use mathlib.Core.List.{List}
 use native.Mathlib.Omega.{arith}
 use lib.ListN.{take}
 use Rattle.scope.specs.Answers.{DONE}
-use Rattle.scope.specs.Room.{machine, Sound}
-use Rattle.scope.specs.Compile.{Compiles, compiled}
-use Rattle.scope.specs.Compare.{CompareLent, Compares, same, separated}
+use Rattle.scope.specs.Machines.Room.{machine, Sound}
+use Rattle.scope.specs.Operations.Compile.{Compiles, compiled}
+use Rattle.scope.specs.Operations.Compare.{CompareLent, Compares, same, separated}
 use Rattle.scope.specs.Demands.{Demand1, Compilation, Demand2, Comparison, Demand3}
-use Rattle.scope.proofs.Buffers.{written-take}
-use Rattle.scope.proofs.Run.{sound-closed}
-use Rattle.scope.proofs.Aside.{rounds-two}
-use Rattle.scope.proofs.Tree.{one-tree}
-use Rattle.scope.proofs.Compile.{compiled-least}
-use Rattle.scope.proofs.Unpack.{unpack-pack, pack-unpack}
-use Rattle.scope.proofs.Separate.{same-exact, word-within}
+use Rattle.scope.proofs.Operations.Buffers.{written-take}
+use Rattle.scope.proofs.Machines.Run.{sound-closed}
+use Rattle.scope.proofs.Machines.Aside.{rounds-two}
+use Rattle.scope.proofs.Text.Tree.{one-tree}
+use Rattle.scope.proofs.Operations.Compile.{compiled-least}
+use Rattle.scope.proofs.Operations.Unpack.{unpack-pack, pack-unpack}
+use Rattle.scope.proofs.Machines.Separate.{same-exact, word-within}
 use Rattle.scope.proofs.Told.{rounds-suffice, rounds-least}
 use Rattle.scope.proofs.Refusals.{compile-rows, compile-leaves, minimise-first, match-first, compare-first, pack-first, unpack-first, taken-exact}
 

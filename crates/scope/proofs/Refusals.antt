@@ -11,22 +11,22 @@ use lib.ListN.{length, take}
 use lib.Seq.{take-length}
 use Rattle.scope.specs.Answers.{DONE, ROOM, LONG, CLASSES, STATES, FORM}
 use Rattle.scope.specs.Limits.{patternLimit, roomBytes}
-use Rattle.scope.specs.Tree.{Tree, expr}
-use Rattle.scope.specs.Reached.{ManyClasses, FewClasses, ManySets}
-use Rattle.scope.specs.Room.{Sound}
-use Rattle.scope.specs.Form.{formByte, FormOf}
-use Rattle.scope.specs.Buffers.{Written, Lent, Cleared, Untouched}
-use Rattle.scope.specs.Compile.{Fits, Sized, CompileRefused, Compiles, no-room, too-long, no-syntax, falls, too-deep, too-many, many-classes, many-sets, compiled}
-use Rattle.scope.specs.Minimise.{MinimiseLent, Minimises, minimised}
-use Rattle.scope.specs.Match.{Matches, accepted, dead, unfinished}
-use Rattle.scope.specs.Compare.{CompareLent, Compares, same, separated}
-use Rattle.scope.specs.Pack.{Packs}
-use Rattle.scope.specs.Unpack.{Unpacks, unpacked}
+use Rattle.scope.specs.Text.Tree.{Tree, expr}
+use Rattle.scope.specs.Positions.Reached.{ManyClasses, FewClasses, ManySets}
+use Rattle.scope.specs.Machines.Room.{Sound}
+use Rattle.scope.specs.Packing.PackedForm.{formByte, FormOf}
+use Rattle.scope.specs.Operations.Buffers.{Written, Lent, Cleared, Untouched}
+use Rattle.scope.specs.Operations.Compile.{Fits, Sized, CompileRefused, Compiles, no-room, too-long, no-syntax, falls, too-deep, too-many, many-classes, many-sets, compiled}
+use Rattle.scope.specs.Operations.Minimise.{MinimiseLent, Minimises, minimised}
+use Rattle.scope.specs.Operations.Match.{Matches, accepted, dead, unfinished}
+use Rattle.scope.specs.Operations.Compare.{CompareLent, Compares, same, separated}
+use Rattle.scope.specs.Operations.Pack.{Packs}
+use Rattle.scope.specs.Operations.Unpack.{Unpacks, unpacked}
 use Rattle.scope.specs.Demands.{Packing, Refusal, TableRow, CompileRows, TwoRows, PackRows, Leaves}
-use Rattle.scope.proofs.Compile.{judgements, past1, past2, past3, past4, past5, past6, past7, answer-one}
-use Rattle.scope.proofs.Determined.{Judged}
-use Rattle.scope.proofs.Compare.{unsound}
-use Rattle.scope.proofs.Unpack.{unpack-pack}
+use Rattle.scope.proofs.Operations.Compile.{judgements, past1, past2, past3, past4, past5, past6, past7, answer-one}
+use Rattle.scope.proofs.Operations.Determined.{FirstApplies}
+use Rattle.scope.proofs.Operations.Compare.{unsound}
+use Rattle.scope.proofs.Operations.Unpack.{unpack-pack}
 
 -- the place 0
 nowhere : (m p : ℕ) → p ≡ 0 → _≡_ {A = ℕ × ℕ} (m, p) (m, 0)
@@ -35,7 +35,7 @@ nowhere m p e = ap (λ (k : ℕ). (m, k)) e
 module _ {text room room′ bytes bytes′ words words′ : List ℕ} where
   -- a row of compiling: what its answer shows, and what gives that answer
   compile-row : {n i m : ℕ} {P : ℕ → Type 0} → Compiles text room room′ bytes bytes′ words words′ n i
-      → ((p : ℕ) → Compiles text room room′ bytes bytes′ words words′ m p → P p) → ((p : ℕ) → P p → Judged (judgements text room bytes words) (m, p)) → TableRow n i m P
+      → ((p : ℕ) → Compiles text room room′ bytes bytes′ words words′ m p → P p) → ((p : ℕ) → P p → FirstApplies (judgements text room bytes words) (m, p)) → TableRow n i m P
   compile-row u f g p = (λ e. f p (rw (e .0, e .1) at u), λ x. answer-one text room bytes words u (g p x))
 
   -- compiling: when each refusal is given

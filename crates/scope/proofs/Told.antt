@@ -8,14 +8,14 @@ use mathlib.Core.Logic.{_⊎_, inl, inr}
 use mathlib.Core.List.{List}
 use native.Mathlib.Omega.{arith}
 use lib.ListN.{length}
-use Rattle.scope.specs.Machine.{Machine, run, Same, Closed}
-use Rattle.scope.specs.Rounds.{aside, Rounds, Enough}
+use Rattle.scope.specs.Machines.Machine.{Machine, run, Same, Closed}
+use Rattle.scope.specs.Machines.Rounds.{aside, Rounds, Enough}
 use Rattle.scope.specs.Demands.{StateOf, of-left, of-right, Tells, Suffices}
-use Rattle.scope.proofs.Tests.{split}
-use Rattle.scope.proofs.Chain.{first-not}
-use Rattle.scope.proofs.Rounds.{together-either, rests-same, rests-enough}
-use Rattle.scope.proofs.Aside.{aside-closed, left-run, right-run}
-use Rattle.scope.proofs.Separate.{spell}
+use Rattle.scope.proofs.Counting.Tests.{split}
+use Rattle.scope.proofs.Counting.Chain.{first-not}
+use Rattle.scope.proofs.Machines.Rounds.{together-either, rests-same, rests-enough}
+use Rattle.scope.proofs.Machines.Aside.{aside-closed, left-run, right-run}
+use Rattle.scope.proofs.Machines.Separate.{spell}
 
 -- the state i of the machine A accepts the strings of the state q of K
 record StandsFor (A : Machine) (i : ℕ) (K : Machine) (q : ℕ) : Type 0 where

@@ -19,22 +19,22 @@ use lib.ListN.{length, take, getD}
 use Rattle.scope.specs.Answers.{DONE, ROOM, LONG, SYNTAX, RANGE, DEPTH, POSITIONS, CLASSES, STATES, FORM, SAME, SEPARATED}
 use Rattle.scope.specs.Limits.{patternLimit, roomBytes}
 use Rattle.scope.specs.Bytes.{Bytes}
-use Rattle.scope.specs.Re.{Words}
-use Rattle.scope.specs.Tree.{Tree, expr}
-use Rattle.scope.specs.Judge.{Pattern, SyntaxAt, RangeAt, Ordered, DepthAt, Shallow, PositionAt}
-use Rattle.scope.specs.Reached.{ManyClasses, FewClasses, ManySets}
-use Rattle.scope.specs.Machine.{Machine, run, Recognises, Closed}
-use Rattle.scope.specs.Room.{statesOf, machine, Sound}
-use Rattle.scope.specs.Canonical.{Canonical}
-use Rattle.scope.specs.Form.{formLength}
-use Rattle.scope.specs.Separate.{Separates, Separation}
-use Rattle.scope.specs.Buffers.{Lent, Cleared, Untouched}
-use Rattle.scope.specs.Compile.{Fits, Sized, Compiles}
-use Rattle.scope.specs.Minimise.{MinimiseLent, Minimises}
-use Rattle.scope.specs.Match.{Matches}
-use Rattle.scope.specs.Compare.{CompareLent, Compares}
-use Rattle.scope.specs.Pack.{Packs}
-use Rattle.scope.specs.Unpack.{Unpacks}
+use Rattle.scope.specs.Text.Re.{Words}
+use Rattle.scope.specs.Text.Tree.{Tree, expr}
+use Rattle.scope.specs.Text.Judge.{Pattern, SyntaxAt, RangeAt, Ordered, DepthAt, Shallow, PositionAt}
+use Rattle.scope.specs.Positions.Reached.{ManyClasses, FewClasses, ManySets}
+use Rattle.scope.specs.Machines.Machine.{Machine, run, Recognises, Closed}
+use Rattle.scope.specs.Machines.Room.{statesOf, machine, Sound}
+use Rattle.scope.specs.Machines.Canonical.{Canonical}
+use Rattle.scope.specs.Packing.PackedForm.{formLength}
+use Rattle.scope.specs.Machines.Separate.{Separates, Separation}
+use Rattle.scope.specs.Operations.Buffers.{Lent, Cleared, Untouched}
+use Rattle.scope.specs.Operations.Compile.{Fits, Sized, Compiles}
+use Rattle.scope.specs.Operations.Minimise.{MinimiseLent, Minimises}
+use Rattle.scope.specs.Operations.Match.{Matches}
+use Rattle.scope.specs.Operations.Compare.{CompareLent, Compares}
+use Rattle.scope.specs.Operations.Pack.{Packs}
+use Rattle.scope.specs.Operations.Unpack.{Unpacks}
 
 -- ---- the first
 

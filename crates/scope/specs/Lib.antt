@@ -1,38 +1,20 @@
 -- Document 01, rendered: one file a notion, in the order of the document.
 
--- What is built; the numbers that bound the work
+-- The numbers that bound the work; bytes, tests that decide, how many of a kind there are
 pub mod Limits
 pub mod Bytes
 pub mod Tests
--- The pattern language, and what expressions mean
-pub mod Tree
-pub mod Grammar
-pub mod Re
--- Positions to machine
-pub mod Sets
-pub mod Bits
-pub mod Machine
 pub mod Count
-pub mod Reached
-pub mod Room
-pub mod Canonical
+-- The pattern language, and what expressions mean
+pub mod Text
+-- Positions to machine
+pub mod Positions
+pub mod Machines
 -- Answers, in order of judgement
 pub mod Answers
-pub mod Judge
-pub mod Buffers
-pub mod Compile
-pub mod Minimise
-pub mod Match
-pub mod Separate
-pub mod Rounds
-pub mod Compare
+pub mod Operations
 -- The packed form
-pub mod Form
-pub mod Pack
-pub mod Unpack
--- What contracts of the passes cite, though it is no rule of 01
-pub mod Modes
-pub mod Laid
+pub mod Packing
 -- The three demands, on the contracts
 pub mod Demands
 -- The program's lines, and the sample patterns

@@ -1,6 +1,6 @@
 -- 01, "Sample patterns and rulings": the rows marked P, the places of SYNTAX and RANGE, and the program's example; what each says of the definitions.
 --   Sample: a pattern with the machine that 01 gives for it
---   roomOf g: the room of that machine, byte by byte
+--   sampleRoom g: the room of that machine, byte by byte
 --   Compiled g: compiling the pattern gives that room
 --   positions l: the set of the positions l, as a number
 --   Row, Says: a row, and what it says; Each l: what each row of a list says
@@ -15,16 +15,16 @@ use lib.Dec.{ltb}
 use lib.ListN.{length, getD}
 use Rattle.scope.specs.Limits.{classesAt, marksAt, cellsAt, roomBytes, wordBytes}
 use Rattle.scope.specs.Bytes.{isIn, ascii}
-use Rattle.scope.specs.Re.{Re, size}
-use Rattle.scope.specs.Bits.{null, first, last, follow}
-use Rattle.scope.specs.Tree.{Tree, expr}
-use Rattle.scope.specs.Judge.{Pattern, SyntaxAt, RangeAt}
+use Rattle.scope.specs.Text.Re.{Re, size}
+use Rattle.scope.specs.Positions.Bits.{null, first, last, follow}
+use Rattle.scope.specs.Text.Tree.{Tree, expr}
+use Rattle.scope.specs.Text.Judge.{Pattern, SyntaxAt, RangeAt}
 use Rattle.scope.specs.Answers.{DONE, ACCEPTED, DEAD, UNFINISHED, SAME, SEPARATED}
-use Rattle.scope.specs.Form.{formLength}
-use Rattle.scope.specs.Buffers.{Written, Scratch, Cleared}
-use Rattle.scope.specs.Compile.{Compiles}
-use Rattle.scope.specs.Match.{Matches}
-use Rattle.scope.specs.Compare.{Compares}
+use Rattle.scope.specs.Packing.PackedForm.{formLength}
+use Rattle.scope.specs.Operations.Buffers.{Written, Scratch, Cleared}
+use Rattle.scope.specs.Operations.Compile.{Compiles}
+use Rattle.scope.specs.Operations.Match.{Matches}
+use Rattle.scope.specs.Operations.Compare.{Compares}
 use Rattle.scope.specs.Lines.{Side, Outcome, printed}
 
 -- ---- machines as 01 writes them
@@ -54,8 +54,8 @@ unfoldable pub classIn : Sample → ℕ → ℕ
 unfolding classFrom
 classIn g b = classFrom (g .classes) 1 b
 
-abbrev pub cellIn : Sample → ℕ → ℕ → ℕ
-cellIn g q c = getD (getD (g .rows) q []) c 0
+abbrev pub sampleCell : Sample → ℕ → ℕ → ℕ
+sampleCell g q c = getD (getD (g .rows) q []) c 0
 
 -- "number of states n, number of classes k, the class of each of the 256 byte values, 128 accept marks, 8,192 table cells by row"
 unfoldable pub byteIn : Sample → ℕ → ℕ
@@ -63,23 +63,23 @@ unfolding classIn
 byteIn g i =
     cond (ltb i classesAt) (getD (statesIn g ∷ classesIn g ∷ []) i 0)
     (cond (ltb i marksAt) (classIn g (i - classesAt))
-    (cond (ltb i cellsAt) (getD (g .marks) (i - marksAt) 0) (cellIn g ((i - cellsAt) / classesIn g) ((i - cellsAt) % classesIn g))))
+    (cond (ltb i cellsAt) (getD (g .marks) (i - marksAt) 0) (sampleCell g ((i - cellsAt) / classesIn g) ((i - cellsAt) % classesIn g))))
 
 -- f 0 .. f (n - 1)
 unfoldable pub listed : (ℕ → ℕ) → ℕ → List ℕ
 listed f zero = []
 listed f (suc n) = listed f n ++ (f n ∷ [])
 
-unfoldable pub roomOf : Sample → List ℕ
+unfoldable pub sampleRoom : Sample → List ℕ
 unfolding listed byteIn
-roomOf g = listed (byteIn g) roomBytes
+sampleRoom g = listed (byteIn g) roomBytes
 
 -- ---- what rows say
 
 abbrev pub Compiled : Sample → Type 0
 Compiled g =
     (room bytes bytes′ words words′ : List ℕ) → length room ≡ roomBytes → Scratch bytes words → Cleared bytes bytes′ words words′
-    → Compiles (g .text) room (roomOf g) bytes bytes′ words words′ DONE 0
+    → Compiles (g .text) room (sampleRoom g) bytes bytes′ words words′ DONE 0
 
 unfoldable pub positions : List ℕ → ℕ
 positions [] = 0
@@ -111,13 +111,13 @@ pub data Row : Type 0 where
 abbrev pub Says : Row → Type 0
 Says (sets s n f l w) = (t : Tree) × Pattern s t × HasSets (expr t) n f l w
 Says (machine g) = Compiled g
-Says (packed g n) = Compiled g × (formLength (roomOf g) ≡ n)
-Says (matched g s n i) = Compiled g × Matches (roomOf g) s n i
+Says (packed g n) = Compiled g × (formLength (sampleRoom g) ≡ n)
+Says (matched g s n i) = Compiled g × Matches (sampleRoom g) s n i
 Says (compared g h c w r) =
     Compiled g × Compiled h
     × ((word word′ bytes bytes′ words words′ : List ℕ) → wordBytes ≤ length word → Scratch bytes words
     → Written (length w) (λ i. getD w i 0) word word′ → Cleared bytes bytes′ words words′
-    → Compares (roomOf g) (roomOf h) word word′ bytes bytes′ words words′ c (length w) r)
+    → Compares (sampleRoom g) (sampleRoom h) word word′ bytes bytes′ words words′ c (length w) r)
 Says (syntax s i) = SyntaxAt s i
 Says (falls s i) = (t : Tree) × Pattern s t × RangeAt t i
 Says (prints a b c l) = printed a b c ≡ l

@@ -16,17 +16,17 @@ use lib.Dec.{lit<}
 use lib.ListN.{getD, set, replicate, length-set}
 use lib.Seq.{getD-set-same, getD-set-other}
 use Rattle.scope.specs.Limits.{stateLimit, setWords}
-use Rattle.scope.proofs.Tests.{split}
-use Rattle.slices.specs.Numbered.{Found}
+use Rattle.scope.proofs.Counting.Tests.{split}
+use Rattle.buffers.specs.Numbered.{Found}
 use Rattle.sets.specs.Value.{valueAt, Put}
 use Rattle.sets.proofs.Words.{put-other}
 use Rattle.sets.specs.Layout.{setsAt}
-use Rattle.seats.specs.Layout.{setOf}
+use Rattle.seats.specs.SeatLayout.{reachedSet}
 use Rattle.seats.specs.Seats.{guessCount, noGuess, remainderOf, Guesses, Guessed, Is, Seated}
 use Rattle.seats.proofs.Kept.{kept-none, kept-wide, put-kept}
 
 -- a set that was guessed
-pub seated-guess : (w : List ℕ) (n s r : ℕ) → (r < n) × (setOf w r ≡ s) → Seated w w n s r
+pub seated-guess : (w : List ℕ) (n s r : ℕ) → (r < n) × (reachedSet w r ≡ s) → Seated w w n s r
 seated-guess w n s r g = record { most = omega (arith, g .0); here = λ h. g .1; new = λ e. absurd (omega (arith, g .0)); kept = kept-none w _ _ }
 
 -- a set that is there, or has no room
@@ -78,16 +78,16 @@ pub remainder-in : (s : ℕ) → remainderOf s < guessCount
 remainder-in s = mod-lt s (lit< tt)
 
 -- where there is no guess for a set, it is new
-pub guess-none : {w g : List ℕ} {n : ℕ} → Guesses w g n → (s : ℕ) → getD g (remainderOf s) 0 ≡ noGuess → (i : ℕ) → i < n → setOf w i ≡ s → ⊥
+pub guess-none : {w g : List ℕ} {n : ℕ} → Guesses w g n → (s : ℕ) → getD g (remainderOf s) 0 ≡ noGuess → (i : ℕ) → i < n → reachedSet w i ≡ s → ⊥
 guess-none {g = g} d s e i h z = d .known i h (ap (λ (s : ℕ). getD g (remainderOf s) 0) z ∙ e)
 
 -- {0} is there, and no other set
-pub guesses-first : (w : List ℕ) → setOf w 0 ≡ 1 → Guesses w (set (replicate guessCount noGuess) 1 0) 1
+pub guesses-first : (w : List ℕ) → reachedSet w 0 ≡ 1 → Guesses w (set (replicate guessCount noGuess) 1 0) 1
 guesses-first w e = record {
   long = refl;
   known = λ i h z.
       let o : i ≡ 0 = omega arith in
-      let u : setOf w i ≡ 1 = rw o e in
+      let u : reachedSet w i ≡ 1 = rw o e in
       one (sym (ap (λ (s : ℕ). getD first (remainderOf s) 0) u) ∙ z);
 }
   where
@@ -105,9 +105,9 @@ module _ {w g : List ℕ} {n : ℕ} (d : Guesses w g n) (s r : ℕ) (l : r ≤ s
   guesses-set : Guesses w (set g (remainderOf s) r) n
   guesses-set = record {
     long = length-set g (remainderOf s) r ∙ d .long;
-    known = λ i h z. elim (ℕ-discrete (remainderOf (setOf w i)) (remainderOf s)) [
+    known = λ i h z. elim (ℕ-discrete (remainderOf (reachedSet w i)) (remainderOf s)) [
       | yes e ↦ omega (arith, sym at ∙ ap (λ (k : ℕ). getD (set g (remainderOf s) r) k 0) (sym e) ∙ z)
-      | no e ↦ d .known i h (sym (getD-set-other g (remainderOf s) (remainderOf (setOf w i)) r 0 e) ∙ z)
+      | no e ↦ d .known i h (sym (getD-set-other g (remainderOf s) (remainderOf (reachedSet w i)) r 0 e) ∙ z)
     ];
   }
 
@@ -115,7 +115,7 @@ module _ {w g : List ℕ} {n : ℕ} (d : Guesses w g n) (s r : ℕ) (l : r ≤ s
   guesses-new : {w′ : List ℕ} → Put w w′ (setsAt + n) s → Guesses w′ (set g (remainderOf s) r) (n + 1)
   guesses-new {w′} p = record {
     long = guesses-set .long;
-    known = below-more (λ (i : ℕ). getD (set g (remainderOf s) r) (remainderOf (setOf w′ i)) 0 ≡ noGuess → ⊥) n
+    known = below-more (λ (i : ℕ). getD (set g (remainderOf s) r) (remainderOf (reachedSet w′ i)) 0 ≡ noGuess → ⊥) n
         (λ i h z. guesses-set .known i h (ap (λ (s′ : ℕ). getD (set g (remainderOf s) r) (remainderOf s′) 0) (sym (put-other p (setsAt + i) (λ e. omega arith))) ∙ z))
         (λ z. omega (arith, sym at ∙ ap (λ (s′ : ℕ). getD (set g (remainderOf s) r) (remainderOf s′) 0) (sym (p .here)) ∙ z));
   }

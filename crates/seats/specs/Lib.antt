@@ -1,3 +1,3 @@
 -- What the contracts of the seats cite.
-pub mod Layout
+pub mod SeatLayout
 pub mod Seats

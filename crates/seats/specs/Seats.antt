@@ -10,7 +10,7 @@ use mathlib.Core.List.{List}
 use lib.ListN.{length, getD}
 use Rattle.scope.specs.Limits.{stateLimit, setWords}
 use Rattle.sets.specs.Layout.{setsAt}
-use Rattle.seats.specs.Layout.{setOf, Kept}
+use Rattle.seats.specs.SeatLayout.{reachedSet, KeptOutside}
 
 abbrev pub guessCount : ℕ
 guessCount = 251
@@ -24,17 +24,17 @@ remainderOf s = s % guessCount
 
 pub record Guesses (w g : List ℕ) (n : ℕ) : Type 0 where
   pub long : length g ≡ guessCount
-  pub known : (i : ℕ) → i < n → getD g (remainderOf (setOf w i)) 0 ≡ noGuess → ⊥
+  pub known : (i : ℕ) → i < n → getD g (remainderOf (reachedSet w i)) 0 ≡ noGuess → ⊥
 
 pub record Guessed (w g : List ℕ) (n r : ℕ) : Type 0 where
   pub old : Guesses w g n
   pub new : r ≡ n → r < stateLimit → Guesses w g (n + 1)
 
 abbrev pub Is : List ℕ → ℕ → ℕ → Type 0
-Is w s i = setOf w i ≡ s
+Is w s i = reachedSet w i ≡ s
 
 pub record Seated (w w′ : List ℕ) (n s r : ℕ) : Type 0 where
   pub most : r ≤ n
-  pub here : r < stateLimit → setOf w′ r ≡ s
-  pub new : r ≡ n → (i : ℕ) → i < n → setOf w i ≡ s → ⊥
-  pub kept : Kept w w′ ((setsAt + n) * setWords) ((setsAt + stateLimit) * setWords)
+  pub here : r < stateLimit → reachedSet w′ r ≡ s
+  pub new : r ≡ n → (i : ℕ) → i < n → reachedSet w i ≡ s → ⊥
+  pub kept : KeptOutside w w′ ((setsAt + n) * setWords) ((setsAt + stateLimit) * setWords)

@@ -5,8 +5,8 @@ ghost use mathlib.Core.Bool.{true};
 ghost use Prim.Native.Nat.{ℕ, _+_, _*_, _%_, _^_, _<_, _≤_};
 ghost use lib.ListN.{length};
 ghost use Rattle.scope.specs.Limits.{stateLimit, setWords};
-ghost use Rattle.slices.specs.Numbered.{Found};
-ghost use Rattle.sets.specs.Value.{value};
+ghost use Rattle.buffers.specs.Numbered.{Found};
+ghost use Rattle.sets.specs.Value.{setValue};
 ghost use Rattle.sets.specs.Layout.{setsAt};
 ghost use Rattle.seats.specs.Seats.{noGuess, remainderOf, Guesses, Guessed, Is, Seated};
 use scope::Machine;
@@ -30,7 +30,7 @@ fn word_remainder(x: u64) -> usize
 
 // The remainder of a set, over its words from the highest down.
 fn remainder(s: Set) -> usize
-    ensures { λ r. ⌜ r ≡ remainderOf (value (s .words)) ⌝ }
+    ensures { λ r. ⌜ r ≡ remainderOf (setValue (s .words)) ⌝ }
 {
     let mut r: usize = 0;
     let mut i: usize = Machine::SET_WORDS;
@@ -44,7 +44,7 @@ fn remainder(s: Set) -> usize
 // The first of the n reached sets that is s, n if none is.
 fn find(words: &[u64], n: usize, s: Set) -> usize
     requires { ⌜ (n ≤ stateLimit) × ((setsAt + stateLimit) * setWords ≤ length (now words)) ⌝ }
-    ensures { λ r. ⌜ Found (Is (now (words .entry)) (value (s .words))) n r ⌝ }
+    ensures { λ r. ⌜ Found (Is (now (words .entry)) (setValue (s .words))) n r ⌝ }
 {
     let mut i: usize = 0;
     while i < n {
@@ -59,7 +59,7 @@ fn find(words: &[u64], n: usize, s: Set) -> usize
 // Whether the number i among the n reached sets is that of s.
 fn is_at(words: &[u64], n: usize, i: usize, s: Set) -> bool
     requires { ⌜ (n ≤ stateLimit) × ((setsAt + stateLimit) * setWords ≤ length (now words)) ⌝ }
-    ensures { λ r. ⌜ (r ≡ true → (i < n) × Is (now (words .entry)) (value (s .words)) i) ⌝ }
+    ensures { λ r. ⌜ (r ≡ true → (i < n) × Is (now (words .entry)) (setValue (s .words)) i) ⌝ }
 {
     if i < n {
         return s.same(sets::load(words, SETS_AT + i));
@@ -70,8 +70,8 @@ fn is_at(words: &[u64], n: usize, i: usize, s: Set) -> bool
 // The first of the n reached sets that is s, n if none is. Where there is no guess for its remainder, none has it.
 fn search(words: &[u64], n: usize, guess: u16, s: Set) -> usize
     requires { ⌜ (n ≤ stateLimit) × ((setsAt + stateLimit) * setWords ≤ length (now words)) ⌝ }
-    requires { ⌜ (guess ≡ noGuess → (i : ℕ) → i < n → Is (now words) (value (s .words)) i → ⊥) ⌝ }
-    ensures { λ r. ⌜ Found (Is (now (words .entry)) (value (s .words))) n r ⌝ }
+    requires { ⌜ (guess ≡ noGuess → (i : ℕ) → i < n → Is (now words) (setValue (s .words)) i → ⊥) ⌝ }
+    ensures { λ r. ⌜ Found (Is (now (words .entry)) (setValue (s .words))) n r ⌝ }
 {
     if guess == NO_GUESS {
         n
@@ -84,7 +84,7 @@ fn search(words: &[u64], n: usize, guess: u16, s: Set) -> usize
 // after them.
 pub fn seat(words: &mut [u64], guesses: &mut [u16], n: usize, s: Set) -> usize
     requires { ⌜ (n ≤ stateLimit) × ((setsAt + stateLimit) * setWords ≤ length (now words)) × Guesses (now words) (now guesses) n ⌝ }
-    ensures { λ r. ⌜ Seated (now (words .entry)) (now (words .exit)) n (value (s .words)) r ⌝ }
+    ensures { λ r. ⌜ Seated (now (words .entry)) (now (words .exit)) n (setValue (s .words)) r ⌝ }
     ensures { λ r. ⌜ Guessed (now (words .exit)) (now (guesses .exit)) n r ⌝ }
 {
     let at = remainder(s);

@@ -1,3 +1,3 @@
 -- The laws of the sets.
 pub mod Words
-pub mod Held
+pub mod HeldBits

@@ -15,11 +15,11 @@ use lib.Pow.{pow-add, pow-pos, pow-lt, shr-shr}
 use lib.Bits.{bitOr, bitAnd, or-block, and-block, or-mod, and-mod}
 use lib.ListN.{getD, set, replicate, getD-replicate}
 use lib.Seq.{getD-set-same, getD-set-other}
-use Rattle.scope.specs.Bits.{has}
+use Rattle.scope.specs.Positions.Bits.{has}
 use Rattle.scope.specs.Limits.{setWords}
-use Rattle.scope.proofs.Tests.{split}
-use Rattle.slices.specs.Parts.{Stored}
-use Rattle.sets.specs.Value.{setBits, valueAt, value, setAt, Put}
+use Rattle.scope.proofs.Counting.Tests.{split}
+use Rattle.buffers.specs.Stored.{Stored}
+use Rattle.sets.specs.Value.{setBits, valueAt, setValue, setAt, Put}
 
 on : (m : List ℕ) (i x : ℕ) → getD m (suc i + x) 0 ≡ getD m (i + suc x) 0
 on m i x = ap (λ (n : ℕ). getD m n 0) (suc-add i x ∙ sym (add-suc i x))
@@ -45,10 +45,10 @@ module _ (f : ℕ → ℕ → ℕ) (none : f 0 0 ≡ 0) (cut : (a b k : ℕ) →
       (ap (λ (n : ℕ). n % 2 ^ 64) (rw (at, at, at) at (e 0 (omega arith))) ∙ cut (getD a i 0) (getD b j 0) 64)
       ∙ sym (block 64 _ _ _ _ (small _) (small _))
 
-pub value-or : (a b r : List ℕ) → ((x : ℕ) → x < setWords → getD r x 0 ≡ bitOr (getD a x 0) (getD b x 0)) → value r ≡ bitOr (value a) (value b)
+pub value-or : (a b r : List ℕ) → ((x : ℕ) → x < setWords → getD r x 0 ≡ bitOr (getD a x 0) (getD b x 0)) → setValue r ≡ bitOr (setValue a) (setValue b)
 value-or a b r e = value-of bitOr refl or-mod or-block setWords a b r 0 0 0 (λ x h. rw zero-add (e x h))
 
-pub value-and : (a b r : List ℕ) → ((x : ℕ) → x < setWords → getD r x 0 ≡ bitAnd (getD a x 0) (getD b x 0)) → value r ≡ bitAnd (value a) (value b)
+pub value-and : (a b r : List ℕ) → ((x : ℕ) → x < setWords → getD r x 0 ≡ bitAnd (getD a x 0) (getD b x 0)) → setValue r ≡ bitAnd (setValue a) (setValue b)
 value-and a b r e = value-of bitAnd refl and-mod and-block setWords a b r 0 0 0 (λ x h. rw zero-add (e x h))
 
 -- ---- the same words, the same number
@@ -59,10 +59,10 @@ value-same zero a b i j e = refl
 value-same (suc w) a b i j e =
     ap₂ (λ (x y : ℕ). x * 2 ^ 64 + y % 2 ^ 64) (value-same w a b (suc i) (suc j) (λ x h. rw (on a i x, on b j x) (e (suc x) (omega arith)))) (rw (at, at) at (e 0 (omega arith)))
 
-pub value-load : (m r : List ℕ) (i : ℕ) → ((x : ℕ) → x < setWords → getD r x 0 ≡ getD m (i * setWords + x) 0) → value r ≡ setAt m i
+pub value-load : (m r : List ℕ) (i : ℕ) → ((x : ℕ) → x < setWords → getD r x 0 ≡ getD m (i * setWords + x) 0) → setValue r ≡ setAt m i
 value-load m r i e = value-same setWords r m 0 (i * setWords) (λ x h. rw zero-add (e x h))
 
-pub value-equal : (a b : List ℕ) → ((x : ℕ) → x < setWords → getD a x 0 ≡ getD b x 0) → value a ≡ value b
+pub value-equal : (a b : List ℕ) → ((x : ℕ) → x < setWords → getD a x 0 ≡ getD b x 0) → setValue a ≡ setValue b
 value-equal a b e = value-same setWords a b 0 0 (λ x h. rw zero-add (e x h))
 
 value-nil : (w : ℕ) (m : List ℕ) (k : ℕ) → ((x : ℕ) → x < w → getD m (k + x) 0 ≡ 0) → valueAt m k w ≡ 0
@@ -70,7 +70,7 @@ unfolding valueAt
 value-nil zero m k e = refl
 value-nil (suc w) m k e = ap₂ (λ (x y : ℕ). x * 2 ^ 64 + y % 2 ^ 64) (value-nil w m (suc k) (λ x h. rw (on m k x) (e (suc x) (omega arith)))) (rw at at (e 0 (omega arith)))
 
-pub value-none : (m : List ℕ) → ((x : ℕ) → x < setWords → getD m x 0 ≡ 0) → value m ≡ 0
+pub value-none : (m : List ℕ) → ((x : ℕ) → x < setWords → getD m x 0 ≡ 0) → setValue m ≡ 0
 value-none m e = value-nil setWords m 0 (λ x h. rw zero-add (e x h))
 
 -- a buffer whose words are zero there has the empty set
@@ -91,7 +91,7 @@ same-words (suc w) a b i j e zero h = rw (at, at) (sym (low _ _) ∙ ap (λ (n :
 same-words (suc w) a b i j e (suc x) h =
     rw (← on a i x, ← on b j x) (same-words w a b (suc i) (suc j) (sym (high _ _) ∙ ap (λ (n : ℕ). n / 2 ^ 64) e ∙ high _ _) x (omega arith))
 
-pub value-other : (a b : List ℕ) (x : ℕ) → x < setWords → getD a x 0 < 2 ^ 64 → getD b x 0 < 2 ^ 64 → (getD a x 0 ≡ getD b x 0 → ⊥) → value a ≡ value b → ⊥
+pub value-other : (a b : List ℕ) (x : ℕ) → x < setWords → getD a x 0 < 2 ^ 64 → getD b x 0 < 2 ^ 64 → (getD a x 0 ≡ getD b x 0 → ⊥) → setValue a ≡ setValue b → ⊥
 value-other a b x h fa fb ne e = ne (sym (mod-eq-of-lt fa) ∙ rw (zero-add x) at (same-words setWords a b 0 0 e x h) ∙ mod-eq-of-lt fb)
 
 -- ---- one bit
@@ -122,10 +122,10 @@ has-value (suc w) m k (suc i) j h l =
     ∙ ap (λ (n : ℕ). has n j) (on m k i)
 
 -- the position p stands in the word p / 64
-pub has-at : (m : List ℕ) (p : ℕ) → p < setBits → has (getD m (p / 64) 0) (p % 64) ≡ has (value m) p
+pub has-at : (m : List ℕ) (p : ℕ) → p < setBits → has (getD m (p / 64) 0) (p % 64) ≡ has (setValue m) p
 has-at m p h =
     let e : 64 * (p / 64) + p % 64 ≡ p = omega arith in
-    rw (zero-add) at (sym (has-value setWords m 0 (p / 64) (p % 64) (omega arith) (omega arith))) ∙ ap (has (value m)) e
+    rw (zero-add) at (sym (has-value setWords m 0 (p / 64) (p % 64) (omega arith) (omega arith))) ∙ ap (has (setValue m)) e
 
 -- one word is a power of 2, the others are 0
 value-one : (w : ℕ) (m : List ℕ) (k i j : ℕ) → i < w → j < 64 → getD m (k + i) 0 ≡ 2 ^ j → ((x : ℕ) → x < w → (x ≡ i → ⊥) → getD m (k + x) 0 ≡ 0) → valueAt m k w ≡ 2 ^ (64 * i + j)
@@ -141,7 +141,7 @@ value-one (suc w) m k (suc i) j h l e o =
     (rw at at (o 0 (omega arith) (λ z. omega arith)))
     ∙ add-zero _ ∙ sym (pow-add 2 (64 * i + j) 64) ∙ ap (λ (n : ℕ). 2 ^ n) (sym d)
 
-pub one-at : (p v : ℕ) → p < setBits → v ≡ 2 ^ (p % 64) → value (set (replicate setWords 0) (p / 64) v) ≡ 2 ^ p
+pub one-at : (p v : ℕ) → p < setBits → v ≡ 2 ^ (p % 64) → setValue (set (replicate setWords 0) (p / 64) v) ≡ 2 ^ p
 one-at p v h e =
     let d : 64 * (p / 64) + p % 64 ≡ p = omega arith in
     value-one setWords (set (replicate setWords 0) (p / 64) v) 0 (p / 64) (p % 64) (omega arith) (omega arith)
@@ -152,7 +152,7 @@ one-at p v h e =
 -- ---- sets of a buffer
 
 -- the words of a set, stored at its place
-pub put : (m m′ s : List ℕ) (i : ℕ) {w : ℕ} → Stored m m′ (i * setWords) (i * setWords + w) (λ j. getD s (j - i * setWords) 0) → w ≡ setWords → Put m m′ i (value s)
+pub put : (m m′ s : List ℕ) (i : ℕ) {w : ℕ} → Stored m m′ (i * setWords) (i * setWords + w) (λ j. getD s (j - i * setWords) 0) → w ≡ setWords → Put m m′ i (setValue s)
 put m m′ s i x z = let y = rw z at x in
     record {
       size = y .size;

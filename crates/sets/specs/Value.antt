@@ -1,7 +1,7 @@
 -- A set of positions as words of 64 bits, the lowest first.
 --   setBits: how many bits a set has
 --   valueAt m at w: the number that the w words from `at` on are
---   value m: the set that an array of words is
+--   setValue m: the set that an array of words is
 --   setAt m i: the set number i of a buffer
 --   Put m m′ i s: m′ is m with the set s as number i
 use Prim.Native.Nat.{ℕ, zero, suc, _+_, _*_, _%_, _^_, _<_, _≤_}
@@ -19,8 +19,8 @@ unfoldable pub valueAt : List ℕ → ℕ → ℕ → ℕ
 valueAt m at zero = 0
 valueAt m at (suc w) = valueAt m (suc at) w * 2 ^ 64 + getD m at 0 % 2 ^ 64
 
-abbrev pub value : List ℕ → ℕ
-value m = valueAt m 0 setWords
+abbrev pub setValue : List ℕ → ℕ
+setValue m = valueAt m 0 setWords
 
 abbrev pub setAt : List ℕ → ℕ → ℕ
 setAt m i = valueAt m (i * setWords) setWords

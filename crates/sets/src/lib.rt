@@ -5,9 +5,9 @@ ghost use Prim.Native.Nat.{_+_, _*_, _^_, _<_, _≤_};
 ghost use lib.Bits.{bitOr, bitAnd};
 ghost use lib.Dec.{eqb};
 ghost use lib.ListN.{length};
-ghost use Rattle.scope.specs.Bits.{has};
+ghost use Rattle.scope.specs.Positions.Bits.{has};
 ghost use Rattle.scope.specs.Limits.{setWords};
-ghost use Rattle.sets.specs.Value.{setBits, value, setAt, Put};
+ghost use Rattle.sets.specs.Value.{setBits, setValue, setAt, Put};
 use scope::Machine;
 
 pub mod layout;
@@ -23,7 +23,7 @@ impl Set {
 
     // The empty set.
     pub fn none() -> Set
-        ensures { λ r. ⌜ value (r .words) ≡ 0 ⌝ }
+        ensures { λ r. ⌜ setValue (r .words) ≡ 0 ⌝ }
     {
         Set {
             words: [0u64; Machine::SET_WORDS],
@@ -33,7 +33,7 @@ impl Set {
     // The set of p alone.
     pub fn one(p: usize) -> Set
         requires { ⌜ p < setBits ⌝ }
-        ensures { λ r. ⌜ value (r .words) ≡ 2 ^ p ⌝ }
+        ensures { λ r. ⌜ setValue (r .words) ≡ 2 ^ p ⌝ }
     {
         let mut r = [0u64; Machine::SET_WORDS];
         r[p / 64] = 1u64 << (p % 64);
@@ -43,7 +43,7 @@ impl Set {
     // The set, with p in it.
     pub fn with(self, p: usize) -> Set
         requires { ⌜ p < setBits ⌝ }
-        ensures { λ r. ⌜ value (r .words) ≡ bitOr (value (self .words)) (2 ^ p) ⌝ }
+        ensures { λ r. ⌜ setValue (r .words) ≡ bitOr (setValue (self .words)) (2 ^ p) ⌝ }
     {
         self.joined(Set::one(p))
     }
@@ -51,7 +51,7 @@ impl Set {
     // Whether p is in the set.
     pub fn has(self, p: usize) -> bool
         requires { ⌜ p < setBits ⌝ }
-        ensures { λ r. ⌜ r ≡ has (value (self .words)) p ⌝ }
+        ensures { λ r. ⌜ r ≡ has (setValue (self .words)) p ⌝ }
     {
         let i = p / 64;
         (self.words[i] >> (p % 64)) % 2 == 1
@@ -59,7 +59,7 @@ impl Set {
 
     // The union.
     pub fn joined(self, other: Set) -> Set
-        ensures { λ r. ⌜ value (r .words) ≡ bitOr (value (self .words)) (value (other .words)) ⌝ }
+        ensures { λ r. ⌜ setValue (r .words) ≡ bitOr (setValue (self .words)) (setValue (other .words)) ⌝ }
     {
         let mut r = [0u64; Machine::SET_WORDS];
         let mut i: usize = 0;
@@ -72,7 +72,7 @@ impl Set {
 
     // What both have.
     pub fn common(self, other: Set) -> Set
-        ensures { λ r. ⌜ value (r .words) ≡ bitAnd (value (self .words)) (value (other .words)) ⌝ }
+        ensures { λ r. ⌜ setValue (r .words) ≡ bitAnd (setValue (self .words)) (setValue (other .words)) ⌝ }
     {
         let mut r = [0u64; Machine::SET_WORDS];
         let mut i: usize = 0;
@@ -85,7 +85,7 @@ impl Set {
 
     // Whether both have the same positions.
     pub fn same(self, other: Set) -> bool
-        ensures { λ r. ⌜ r ≡ eqb (value (self .words)) (value (other .words)) ⌝ }
+        ensures { λ r. ⌜ r ≡ eqb (setValue (self .words)) (setValue (other .words)) ⌝ }
     {
         let mut i: usize = 0;
         while i < Machine::SET_WORDS {
@@ -110,7 +110,7 @@ fn word(x: u64) -> u64
 // The set number i of the words.
 pub fn load(words: &[u64], i: usize) -> Set
     requires { ⌜ i * setWords + setWords ≤ length (now words) ⌝ }
-    ensures { λ r. ⌜ value (r .words) ≡ setAt (now (words .entry)) i ⌝ }
+    ensures { λ r. ⌜ setValue (r .words) ≡ setAt (now (words .entry)) i ⌝ }
 {
     let at = i * Machine::SET_WORDS;
     let mut r = [0u64; Machine::SET_WORDS];
@@ -125,7 +125,7 @@ pub fn load(words: &[u64], i: usize) -> Set
 // Puts s into the words as their set number i.
 pub fn store(words: &mut [u64], i: usize, s: Set)
     requires { ⌜ i * setWords + setWords ≤ length (now words) ⌝ }
-    ensures { λ _. ⌜ Put (now (words .entry)) (now (words .exit)) i (value (s .words)) ⌝ }
+    ensures { λ _. ⌜ Put (now (words .entry)) (now (words .exit)) i (setValue (s .words)) ⌝ }
 {
     let at = i * Machine::SET_WORDS;
     let mut w: usize = 0;

@@ -12,13 +12,13 @@ use borrow.Author.Count.{below-more}
 use lib.Bits.{bitOr}
 use lib.ListN.{length, getD, set, length-set}
 use lib.Seq.{getD-set-same, getD-set-other}
-use Rattle.scope.specs.Bits.{has}
-use Rattle.scope.proofs.Room.{flat-in}
-use Rattle.sides.specs.Side.{bothLimit, both, cellIn}
-use Rattle.sides.specs.Kinds.{ColumnsOf}
-use Rattle.agree.specs.Rows.{rowCells, RowCell, Rows}
-use Rattle.signs.specs.Signs.{signs, Sources, Noted}
-use Rattle.sides.proofs.Rooms.{cell-next}
+use Rattle.scope.specs.Positions.Bits.{has}
+use Rattle.scope.proofs.Machines.Room.{flat-in}
+use Rattle.two_rooms.specs.Side.{bothLimit, both, cellIn}
+use Rattle.two_rooms.specs.Kinds.{ColumnsOf}
+use Rattle.parting.specs.CellRows.{rowCells, RowCell, CellRows}
+use Rattle.signs.specs.Signs.{signs, Sources, SignNoted}
+use Rattle.two_rooms.proofs.Rooms.{cell-next}
 use Rattle.signs.proofs.Signs.{or-left, or-right, sign-own}
 
 -- the cells of the states below q, and the first i of q, are in their rows if there are rows; from has what from₀ has, and the sign of q with the states of these i cells;
@@ -35,7 +35,7 @@ pub record Noting (a b left right : List ℕ) (count q : ℕ) (few : Bool) (from
 
 module _ {a b left right : List ℕ} {count q : ℕ} {few : Bool} where
   -- no kind yet
-  pub noting-none : {rows from : List ℕ} → length rows ≡ rowCells → length from ≡ bothLimit → (few ≡ true → Rows a b left right count rows q) → Noting a b left right count q few from rows from bothLimit 0
+  pub noting-none : {rows from : List ℕ} → length rows ≡ rowCells → length from ≡ bothLimit → (few ≡ true → CellRows a b left right count rows q) → Noting a b left right count q few from rows from bothLimit 0
   noting-none l m d = record {
     within = omega arith;
     rows-long = l;
@@ -93,14 +93,14 @@ module _ {a b left right : List ℕ} {count q : ℕ} {few : Bool} where
 
   module _ {from₀ rows from : List ℕ} {last : ℕ} (d : Noting a b left right count q few from₀ rows from last count) where
     -- all kinds: the row of q is there
-    pub noting-rows : (few ≡ true → (q + 1) * count ≤ rowCells) → few ≡ true → Rows a b left right count rows (q + 1)
+    pub noting-rows : (few ≡ true → (q + 1) * count ≤ rowCells) → few ≡ true → CellRows a b left right count rows (q + 1)
     noting-rows f e = record {
       fits = f e;
       cell = λ p j h l. below-more (λ (p : ℕ). RowCell a b left right count rows p j) q (λ p k. d .before e p j k l) (d .row e j l) p h;
     }
 
     -- and its sign, with each state to which a byte leads it
-    pub noting-end : ColumnsOf a b left right count → Noted ((both a b) .next) q from₀ from
+    pub noting-end : ColumnsOf a b left right count → SignNoted ((both a b) .next) q from₀ from
     noting-end c = record {
       kept = d .kept;
       here = λ x h.
@@ -109,6 +109,6 @@ module _ {a b left right : List ℕ} {count q : ℕ} {few : Bool} where
     }
 
 -- the sources of one state more
-pub sources-more : {next : ℕ → ℕ → ℕ} {q : ℕ} {from from′ : List ℕ} → Sources next q from → Noted next q from from′ → Sources next (q + 1) from′
+pub sources-more : {next : ℕ → ℕ → ℕ} {q : ℕ} {from from′ : List ℕ} → Sources next q from → SignNoted next q from from′ → Sources next (q + 1) from′
 sources-more {next} {q} {from} {from′} s d p x h = below-more (λ (p : ℕ). (x : ℕ) → x < _ → has (getD from′ (next p x) 0) (p % signs) ≡ true) q
     (λ p l x k. d .kept (next p x) (p % signs) (s p x l k)) (d .here) p h x

@@ -22,16 +22,16 @@ use lib.Dec.{lit<}
 use lib.ListN.{getD, set}
 use lib.Pow.{shr-le}
 use lib.Seq.{getD-set-other}
-use Rattle.scope.specs.Bits.{has}
-use Rattle.scope.specs.Machine.{Machine, Closed}
-use Rattle.scope.specs.Buffers.{Written}
-use Rattle.scope.proofs.Bits.{has-or, has-pow, has-zero, has-ones, has-shr, has-small, trailing-none, trailing-one}
-use Rattle.scope.proofs.Moves.{has-and}
-use Rattle.scope.proofs.Tests.{split, which}
+use Rattle.scope.specs.Positions.Bits.{has}
+use Rattle.scope.specs.Machines.Machine.{Machine, Closed}
+use Rattle.scope.specs.Operations.Buffers.{Written}
+use Rattle.scope.proofs.Positions.Bits.{has-or, has-pow, has-zero, has-ones, has-shr, has-small, trailing-none, trailing-one}
+use Rattle.scope.proofs.Positions.Moves.{has-and}
+use Rattle.scope.proofs.Counting.Tests.{split, which}
 use Rattle.scope.specs.Limits.{byteValues}
-use Rattle.agree.specs.Parts.{First, Renamed, Alike, Agree}
+use Rattle.parting.specs.Named.{LeastLike, Renamed, OnePart, Agree}
 use Rattle.signs.specs.Signs.{signs, Gap, Sources, Steady, Stayed}
-use Rattle.agree.proofs.Names.{named-same, agree-itself, agree-flip, agree-chain}
+use Rattle.parting.proofs.Names.{named-same, agree-itself, agree-flip, agree-chain}
 
 -- ---- bits
 
@@ -164,7 +164,7 @@ module _ {part : List ℕ} {touched seen q : ℕ} (d : Seen part touched seen q)
     seen-gap = record { more = d .more; begun = λ h k l e m z. elim (split h q) [ inl n ↦ d .begun h k n e m z | inr n ↦ calm h l n ] }
 
     -- none of them is touched, nor is that which begins its part
-    pub seen-calm : (x : ℕ) → x < r → q ≤ x → First (Alike part) x (getD part x 0) → (has touched (getD part x 0 % signs) ≡ false) × (has touched (x % signs) ≡ false)
+    pub seen-calm : (x : ℕ) → x < r → q ≤ x → LeastLike (OnePart part) x (getD part x 0) → (has touched (getD part x 0 % signs) ≡ false) × (has touched (x % signs) ≡ false)
     seen-calm x h l f = (
       elim (split (getD part x 0) q) [
         | inl n ↦ d .begun (getD part x 0) (x % signs) n (f .like) (mod-lt x (lit< tt)) (g x h l)

@@ -2,7 +2,7 @@
 --   signs: how many there are
 --   Gap s q r: from q up to r there is no state whose sign is in s
 --   Sources next n from: from has, with each state to which a byte leads a state below n, the sign of that one
---   Noted next q from from′: from′ has besides the sign of q, with each state to which a byte leads it
+--   SignNoted next q from from′: from′ has besides the sign of q, with each state to which a byte leads it
 --   Steady next part n s: two states of one part agree if the sign of neither is in s
 --   Stayed old new from n s: if one of the signs that from has with a state is not in s, the state has the part that it had
 use Prim.Native.Nat.{ℕ, _%_, _≤_, _<_}
@@ -10,9 +10,9 @@ use mathlib.Core.Path.{_≡_}
 use mathlib.Core.Bool.{true, false}
 use mathlib.Core.List.{List}
 use lib.ListN.{getD}
-use Rattle.scope.specs.Bits.{has}
+use Rattle.scope.specs.Positions.Bits.{has}
 use Rattle.scope.specs.Limits.{byteValues}
-use Rattle.agree.specs.Parts.{Alike, Agree}
+use Rattle.parting.specs.Named.{OnePart, Agree}
 
 abbrev pub signs : ℕ
 signs = 64
@@ -23,12 +23,12 @@ Gap s q r = (x : ℕ) → x < r → q ≤ x → has s (x % signs) ≡ false
 abbrev pub Sources : (ℕ → ℕ → ℕ) → ℕ → List ℕ → Type 0
 Sources next n from = (q x : ℕ) → q < n → x < byteValues → has (getD from (next q x) 0) (q % signs) ≡ true
 
-pub record Noted (next : ℕ → ℕ → ℕ) (q : ℕ) (from from′ : List ℕ) : Type 0 where
+pub record SignNoted (next : ℕ → ℕ → ℕ) (q : ℕ) (from from′ : List ℕ) : Type 0 where
   pub kept : (y k : ℕ) → has (getD from y 0) k ≡ true → has (getD from′ y 0) k ≡ true
   pub here : (x : ℕ) → x < byteValues → has (getD from′ (next q x) 0) (q % signs) ≡ true
 
 pub record Steady (next : ℕ → ℕ → ℕ) (part : List ℕ) (n s : ℕ) : Type 0 where
-  pub agree : (p q : ℕ) → p < n → q < n → Alike part p q → has s (p % signs) ≡ false → has s (q % signs) ≡ false → Agree next part p q
+  pub agree : (p q : ℕ) → p < n → q < n → OnePart part p q → has s (p % signs) ≡ false → has s (q % signs) ≡ false → Agree next part p q
 
 pub record Stayed (old new from : List ℕ) (n s : ℕ) : Type 0 where
   pub part : (q k : ℕ) → q < n → has (getD from q 0) k ≡ true → has s k ≡ false → getD new q 0 ≡ getD old q 0

@@ -7,13 +7,13 @@ ghost use mathlib.Core.Path.{_≡_};
 ghost use mathlib.Core.Bool.{true};
 ghost use Prim.Native.Nat.{_+_, _*_, _%_, _^_, _≤_, _<_};
 ghost use lib.ListN.{length, replicate};
-ghost use Rattle.scope.specs.Room.{statesOf, Sound};
-ghost use Rattle.scope.specs.Rounds.{Together};
-ghost use Rattle.sides.specs.Side.{bothLimit, both, side, Side};
-ghost use Rattle.sides.specs.Kinds.{ColumnsOf};
-ghost use Rattle.agree.specs.Parts.{Named};
-ghost use Rattle.agree.specs.Rows.{rowCells, Rows};
-ghost use Rattle.signs.specs.Signs.{signs, Gap, Sources, Noted, Steady};
+ghost use Rattle.scope.specs.Machines.Room.{statesOf, Sound};
+ghost use Rattle.scope.specs.Machines.Rounds.{Together};
+ghost use Rattle.two_rooms.specs.Side.{bothLimit, both, side, FirstStates};
+ghost use Rattle.two_rooms.specs.Kinds.{ColumnsOf};
+ghost use Rattle.parting.specs.Named.{Named};
+ghost use Rattle.parting.specs.CellRows.{rowCells, CellRows};
+ghost use Rattle.signs.specs.Signs.{signs, Gap, Sources, SignNoted, Steady};
 
 // How many signs there are: a state has the one that its number leaves.
 const SIGNS: usize = 64;
@@ -58,23 +58,23 @@ fn note(
     count: usize,
     q: usize,
     few: bool,
-    rows: &mut [u16; agree::ROWS],
-    from: &mut [u64; sides::STATES],
+    rows: &mut [u16; parting::ROWS],
+    from: &mut [u64; two_rooms::STATES],
 )
     requires { ⌜ Sound (now a) × Sound (now b) ⌝ }
     requires { ⌜ ColumnsOf (now a) (now b) (now left) (now right) count × (q < statesOf (now a) + statesOf (now b)) ⌝ }
     requires { ⌜ (length (now rows) ≡ rowCells) × (length (now from) ≡ bothLimit) ⌝ }
-    requires { ⌜ (few ≡ true → ((q + 1) * count ≤ rowCells) × Rows (now a) (now b) (now left) (now right) count (now rows) q) ⌝ }
-    ensures { λ _. ⌜ (few ≡ true → Rows (now (a .entry)) (now (b .entry)) (now (left .entry)) (now (right .entry)) count (now (rows .exit)) (q + 1)) ⌝ }
-    ensures { λ _. ⌜ Noted ((both (now (a .entry)) (now (b .entry))) .next) q (now (from .entry)) (now (from .exit)) ⌝ }
+    requires { ⌜ (few ≡ true → ((q + 1) * count ≤ rowCells) × CellRows (now a) (now b) (now left) (now right) count (now rows) q) ⌝ }
+    ensures { λ _. ⌜ (few ≡ true → CellRows (now (a .entry)) (now (b .entry)) (now (left .entry)) (now (right .entry)) count (now (rows .exit)) (q + 1)) ⌝ }
+    ensures { λ _. ⌜ SignNoted ((both (now (a .entry)) (now (b .entry))) .next) q (now (from .entry)) (now (from .exit)) ⌝ }
     ensures { λ _. ⌜ (length (now (rows .exit)) ≡ rowCells) × (length (now (from .exit)) ≡ bothLimit) ⌝ }
 {
     let s = sign(q);
     let x = q * count;
-    let mut last = sides::STATES;
+    let mut last = two_rooms::STATES;
     let mut i: usize = 0;
     while i < count {
-        let y = sides::cell(a, b, left, right, q, i);
+        let y = two_rooms::cell(a, b, left, right, q, i);
         if few {
             rows[x + i] = y as u16;
         }
@@ -95,13 +95,13 @@ pub fn note_all(
     count: usize,
     n: usize,
     few: bool,
-    rows: &mut [u16; agree::ROWS],
-    from: &mut [u64; sides::STATES],
+    rows: &mut [u16; parting::ROWS],
+    from: &mut [u64; two_rooms::STATES],
 )
-    requires { ⌜ Side (now a) (now b) n × ColumnsOf (now a) (now b) (now left) (now right) count ⌝ }
+    requires { ⌜ FirstStates (now a) (now b) n × ColumnsOf (now a) (now b) (now left) (now right) count ⌝ }
     requires { ⌜ (length (now rows) ≡ rowCells) × (length (now from) ≡ bothLimit) ⌝ }
     requires { ⌜ (few ≡ true → n * count ≤ rowCells) ⌝ }
-    ensures { λ _. ⌜ (few ≡ true → Rows (now (a .entry)) (now (b .entry)) (now (left .entry)) (now (right .entry)) count (now (rows .exit)) n) ⌝ }
+    ensures { λ _. ⌜ (few ≡ true → CellRows (now (a .entry)) (now (b .entry)) (now (left .entry)) (now (right .entry)) count (now (rows .exit)) n) ⌝ }
     ensures { λ _. ⌜ Sources ((both (now (a .entry)) (now (b .entry))) .next) n (now (from .exit)) ⌝ }
 {
     let mut q: usize = 0;
@@ -115,22 +115,22 @@ pub fn note_all(
 pub fn begin(
     a: &[u8],
     b: &[u8],
-    from: &[u64; sides::STATES],
+    from: &[u64; two_rooms::STATES],
     n: usize,
-    part: &mut [u16; sides::STATES],
+    part: &mut [u16; two_rooms::STATES],
 ) -> u64
-    requires { ⌜ Side (now a) (now b) n ⌝ }
+    requires { ⌜ FirstStates (now a) (now b) n ⌝ }
     requires { ⌜ Sources ((both (now a) (now b)) .next) n (now from) ⌝ }
     requires { ⌜ now part ≡ replicate bothLimit 0 ⌝ }
     ensures { λ _. ⌜ (length (now (part .exit)) ≡ bothLimit) × Named (Together (side (now (a .entry)) (now (b .entry)) n) 0) (now (part .exit)) n ⌝ }
     ensures { λ r. ⌜ Steady ((both (now (a .entry)) (now (b .entry))) .next) (now (part .exit)) n r ⌝ }
 {
-    let m = sides::mark(a, b, 0);
+    let m = two_rooms::mark(a, b, 0);
     let mut touched: u64 = 0;
     let mut other: usize = 0;
     let mut q: usize = 0;
     while q < n {
-        if sides::mark(a, b, q) != m {
+        if two_rooms::mark(a, b, q) != m {
             if other == 0 {
                 other = q;
             }

@@ -6,11 +6,11 @@ use mathlib.Core.Path.{_≡_, sym, _∙_}
 use mathlib.Core.List.{List}
 use native.Mathlib.Omega.{arith}
 use lib.ListN.{getD}
-use Rattle.scope.specs.Room.{classOf}
-use Rattle.sides.specs.Kinds.{KindsOf, Column}
-use Rattle.sides.proofs.ByKind.{kind-before}
-use Rattle.plan.proofs.Kinded.{Kinded}
-use Rattle.merging.specs.Merged.{Distinct}
+use Rattle.scope.specs.Machines.Room.{classOf}
+use Rattle.two_rooms.specs.Kinds.{KindsOf, Column}
+use Rattle.two_rooms.proofs.ByKind.{kind-before}
+use Rattle.smallest_plan.proofs.Kinded.{Kinded}
+use Rattle.class_merging.specs.Merged.{Distinct}
 
 module _ {a kind least column : List ℕ} {kinds : ℕ} (k : KindsOf a a kind least kinds) (c : Column a least column kinds) where
   -- the column of a byte's kind is its class

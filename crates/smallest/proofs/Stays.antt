@@ -11,26 +11,26 @@ use native.Mathlib.Omega.{arith}
 use lib.ListN.{length, getD, take, drop}
 use lib.Seq.{getD-drop}
 use Rattle.scope.specs.Limits.{classesAt, cellsAt, roomBytes}
-use Rattle.scope.specs.Room.{statesOf, classesOf, machine, Sound, SameBytes}
-use Rattle.scope.specs.Canonical.{Canonical}
+use Rattle.scope.specs.Machines.Room.{statesOf, classesOf, machine, Sound, SameBytes}
+use Rattle.scope.specs.Machines.Canonical.{Canonical}
 use Rattle.scope.specs.Samples.{listed}
-use Rattle.scope.proofs.Table.{listed-length, listed-at}
-use Rattle.scope.proofs.Room.{bytes-from-parts}
-use Rattle.scope.proofs.Run.{sound-closed}
-use Rattle.scope.proofs.Agree.{agree-same}
-use Rattle.scope.proofs.Moved.{moved-agree, canonical-moved}
-use Rattle.scope.proofs.Unique.{unique}
-use Rattle.slices.specs.Parts.{Decides, Alike}
-use Rattle.slices.proofs.Laws.{part-all}
-use Rattle.room.proofs.Laws.{head-same}
-use Rattle.plan.specs.declared.Plan.{Plan}
-use Rattle.plan.specs.Planned.{Planned}
-use Rattle.writing.specs.Image.{imageByte}
+use Rattle.scope.proofs.Sampled.Table.{listed-length, listed-at}
+use Rattle.scope.proofs.Machines.Room.{bytes-from-parts}
+use Rattle.scope.proofs.Machines.Run.{sound-closed}
+use Rattle.scope.proofs.Machines.SameMoves.{agree-same}
+use Rattle.scope.proofs.Machines.Moved.{moved-agree, canonical-moved}
+use Rattle.scope.proofs.Machines.Unique.{unique}
+use Rattle.buffers.specs.Stored.{Decides, BeginAlike}
+use Rattle.buffers.proofs.OneMore.{part-all}
+use Rattle.room.proofs.HeadAndParts.{head-same}
+use Rattle.smallest_plan.specs.declared.Plan.{Plan}
+use Rattle.smallest_plan.specs.Planned.{Planned}
+use Rattle.room_writing.specs.PlanImage.{imageByte}
 use Rattle.smallest.specs.Stays.{Stays}
-use Rattle.writing.proofs.Image.{N, is-states, is-classes, is-class, is-mark, at-cell, some-class, states-few, table-few, image-sound, image-agree, image-canonical, image-equal}
+use Rattle.room_writing.proofs.PlanImage.{N, is-states, is-classes, is-class, is-mark, at-cell, some-class, states-few, table-few, image-sound, image-agree, image-canonical, image-equal}
 
 -- a comparison with a part that goes to the end
-pub same-part : {r : Bool} (b : List ℕ) (from n : ℕ) (s : List ℕ) → Decides r (Alike b (take (length s - from) (drop from s)) n)
+pub same-part : {r : Bool} (b : List ℕ) (from n : ℕ) (s : List ℕ) → Decides r (BeginAlike b (take (length s - from) (drop from s)) n)
     → Decides r ((i : ℕ) → i < n → getD b i 0 ≡ getD s (from + i) 0)
 same-part b from n s d = record { yes = λ e i h. d .yes e i h ∙ at i; no = λ e f. d .no e (λ i h. f i h ∙ sym (at i)) }
   where

@@ -5,9 +5,9 @@ use mathlib.Core.Path.{_≡_}
 use mathlib.Core.List.{List}
 use lib.ListN.{getD}
 use Rattle.scope.specs.Limits.{byteValues}
-use Rattle.scope.specs.Room.{statesOf, classesOf, classOf}
-use Rattle.plan.specs.declared.Plan.{Plan}
-use Rattle.plan.specs.Planned.{SameOrder}
+use Rattle.scope.specs.Machines.Room.{statesOf, classesOf, classOf}
+use Rattle.smallest_plan.specs.declared.Plan.{Plan}
+use Rattle.smallest_plan.specs.Planned.{SameOrder}
 
 pub record Stays (a : List ℕ) (p : Plan) : Type 0 where
   pub states : p .states ≡ statesOf a

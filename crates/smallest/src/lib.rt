@@ -2,20 +2,20 @@
 // first arrival; kinds of bytes that every state sends alike share a class; and what came out is written as a room. A room is canonical if nothing of it would change.
 mod stay;
 
-use plan::Plan;
 use scope::Machine;
 use scope::Minimised;
+use smallest_plan::Plan;
 ghost use Prim.Native.Nat.{_≤_};
 ghost use lib.ListN.{length};
 ghost use Rattle.scope.specs.Answers.{minimisedNumber};
 ghost use Rattle.scope.specs.Limits.{roomBytes};
-ghost use Rattle.scope.specs.Machine.{Equal};
-ghost use Rattle.scope.specs.Room.{machine, Sound};
-ghost use Rattle.scope.specs.Canonical.{Canonical};
-ghost use Rattle.scope.specs.Buffers.{TailKept};
-ghost use Rattle.scope.specs.Minimise.{Minimises};
-ghost use Rattle.slices.specs.Parts.{Decides};
-ghost use Rattle.plan.specs.Planned.{Planned};
+ghost use Rattle.scope.specs.Machines.Machine.{Equal};
+ghost use Rattle.scope.specs.Machines.Room.{machine, Sound};
+ghost use Rattle.scope.specs.Machines.Canonical.{Canonical};
+ghost use Rattle.scope.specs.Operations.Buffers.{TailKept};
+ghost use Rattle.scope.specs.Operations.Minimise.{Minimises};
+ghost use Rattle.buffers.specs.Stored.{Decides};
+ghost use Rattle.smallest_plan.specs.Planned.{Planned};
 
 // The smallest machine of a sound room.
 fn make_plan(from: &[u8]) -> Plan
@@ -23,16 +23,16 @@ fn make_plan(from: &[u8]) -> Plan
     ensures { λ r. ⌜ Planned (now (from .entry)) r ⌝ }
 {
     let mut column = [0u8; Machine::BYTES];
-    let mut part = [0u16; parts::STATES];
-    let kinds = parts::refine_alone(from, &mut column, &mut part).kinds;
+    let mut part = [0u16; refinement::STATES];
+    let kinds = refinement::refine_alone(from, &mut column, &mut part).kinds;
     let states = arrivals::arrivals(from, &part, &column, kinds);
     let order = states.order;
     let into = states.into;
     let n = states.count;
-    let classes = merging::merge(from, &order, &into, n, &column, kinds);
+    let classes = class_merging::merge(from, &order, &into, n, &column, kinds);
     let sort = classes.sort;
     let leader = classes.leader;
-    let class = merging::of_bytes(from, &sort);
+    let class = class_merging::of_bytes(from, &sort);
     Plan {
         states: n,
         order: order,
@@ -49,7 +49,7 @@ pub fn smallest(from: &[u8], to: &mut [u8])
     requires { ⌜ roomBytes ≤ length (now to) ⌝ }
     ensures { λ _. ⌜ Canonical (now (to .exit)) × Equal (machine (now (from .entry))) (machine (now (to .exit))) × TailKept roomBytes (now (to .entry)) (now (to .exit)) ⌝ }
 {
-    writing::write(from, make_plan(from), to);
+    room_writing::write(from, make_plan(from), to);
 }
 
 // Whether a sound room is canonical.
@@ -67,10 +67,10 @@ pub fn minimise(from: &[u8], to: &mut [u8], bytes: &mut [u8], words: &mut [u64])
     if from.len() < Machine::ROOM {
         return Minimised::Room;
     }
-    if !slices::is_lent(to, bytes, words) {
+    if !buffers::is_lent(to, bytes, words) {
         return Minimised::Room;
     }
-    slices::clear(bytes, words);
+    buffers::clear(bytes, words);
     if !room::is_sound(from) {
         return Minimised::Form;
     }

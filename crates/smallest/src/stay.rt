@@ -1,8 +1,8 @@
 // Whether a plan changes nothing of its room: as many states and classes, each state its own number, each byte its own class. Then the cells and marks are the room's too.
-use plan::Plan;
 use scope::Machine;
-ghost use Rattle.slices.specs.Parts.{Decides};
-ghost use Rattle.plan.specs.Planned.{Planned};
+use smallest_plan::Plan;
+ghost use Rattle.buffers.specs.Stored.{Decides};
+ghost use Rattle.smallest_plan.specs.Planned.{Planned};
 ghost use Rattle.smallest.specs.Stays.{Stays};
 
 // Whether a plan changes nothing.
@@ -19,8 +19,8 @@ pub fn stays(room: &[u8], plan: Plan) -> bool
     if k != machine.classes {
         return false;
     }
-    if !plan::is_same_order(&plan.order, n) {
+    if !smallest_plan::is_same_order(&plan.order, n) {
         return false;
     }
-    slices::same(&plan.class, &room[Machine::CLASSES_AT..], Machine::BYTES)
+    buffers::same(&plan.class, &room[Machine::CLASSES_AT..], Machine::BYTES)
 }

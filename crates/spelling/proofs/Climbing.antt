@@ -11,14 +11,14 @@ use mathlib.Core.Logic.{_↔_}
 use mathlib.Core.List.{List}
 use native.Mathlib.Omega.{arith}
 use lib.ListN.{getD}
-use Rattle.scope.specs.Machine.{Machine}
-use Rattle.scope.specs.Rounds.{Together}
-use Rattle.scope.proofs.Rounds.{together-flip, together-chain, together-less, rounds-bound}
-use Rattle.sides.specs.Side.{bothLimit}
-use Rattle.parts.specs.Refined.{Parent, Refined}
+use Rattle.scope.specs.Machines.Machine.{Machine}
+use Rattle.scope.specs.Machines.Rounds.{Together}
+use Rattle.scope.proofs.Machines.Rounds.{together-flip, together-chain, together-less, rounds-bound}
+use Rattle.two_rooms.specs.Side.{bothLimit}
+use Rattle.refinement.specs.Refined.{Parent, Refined}
 use Rattle.spelling.specs.Climb.{Climbs, Climbed}
-use Rattle.agree.proofs.Names.{first-one}
-use Rattle.parts.proofs.Turns.{together-itself, part-own}
+use Rattle.parting.proofs.Names.{first-one}
+use Rattle.refinement.proofs.RoundTurns.{together-itself, part-own}
 
 pub record On (M : Machine) (part born : List ℕ) (q r y : ℕ) : Type 0 where
   pub inside : y < M .states

@@ -5,16 +5,16 @@ use Prim.Native.Nat.{ℕ, _+_, _<_}
 use mathlib.Core.Path.{_≡_}
 use mathlib.Core.List.{List}
 use native.Mathlib.Omega.{arith}
-use Rattle.scope.proofs.Rounds.{together-less}
-use Rattle.agree.specs.Parts.{Alike}
+use Rattle.scope.proofs.Machines.Rounds.{together-less}
+use Rattle.parting.specs.Named.{OnePart}
 use Rattle.spelling.specs.Climb.{Climbed}
-use Rattle.parts.proofs.Refined.{refined-together}
+use Rattle.refinement.proofs.Refined.{refined-together}
 use Rattle.spelling.proofs.Climbing.{climbed-together}
 use Rattle.spelling.specs.Word.{Between}
 
 module _ (part parent born : List ℕ) (p q rounds : ℕ) where
   -- after the last round the two are not together
-  pub halve-first : (Alike part p q → ⊥) → Between part parent born p q rounds 0 rounds
+  pub halve-first : (OnePart part p q → ⊥) → Between part parent born p q rounds 0 rounds
   halve-first n = record {
     within = omega arith;
     parted = λ M d h k. record { before = λ i l. absurd (omega arith); apart = λ t. n (refined-together M part parent born rounds d p q h k .1 t) };

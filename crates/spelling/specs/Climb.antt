@@ -3,11 +3,11 @@
 --   Climbed part parent born q r x: x begins the part of q after r rounds, whatever machine the tree is of
 use Prim.Native.Nat.{ℕ, _≤_, _<_}
 use mathlib.Core.List.{List}
-use Rattle.scope.specs.Machine.{Machine}
-use Rattle.scope.specs.Rounds.{Together}
-use Rattle.sides.specs.Side.{bothLimit}
-use Rattle.agree.specs.Parts.{First}
-use Rattle.parts.specs.Refined.{Refined}
+use Rattle.scope.specs.Machines.Machine.{Machine}
+use Rattle.scope.specs.Machines.Rounds.{Together}
+use Rattle.two_rooms.specs.Side.{bothLimit}
+use Rattle.parting.specs.Named.{LeastLike}
+use Rattle.refinement.specs.Refined.{Refined}
 
 pub record Climbs (part parent born : List ℕ) (q r : ℕ) : Type 0 where
   pub machine : Machine
@@ -18,4 +18,4 @@ pub record Climbs (part parent born : List ℕ) (q r : ℕ) : Type 0 where
   pub past : r ≤ rounds
 
 abbrev pub Climbed : List ℕ → List ℕ → List ℕ → ℕ → ℕ → ℕ → Type 0
-Climbed part parent born q r x = (M : Machine) (k : ℕ) → Refined M part parent born k → q < M .states → r ≤ k → First (Together M r) q x
+Climbed part parent born q r x = (M : Machine) (k : ℕ) → Refined M part parent born k → q < M .states → r ≤ k → LeastLike (Together M r) q x

@@ -3,19 +3,19 @@
 --   Apart part parent born p q rounds: the tree is that of some machine with so many rounds, and p and q are two of its states, in two parts
 --   Between part parent born p q rounds low high: they are parted so, whatever machine the tree is of, and high is at most rounds
 --   Spells a b part parent born d: the tree is that of the rooms a and b side by side, and d the first round after which their starts are not together
---   Holds a b word word′ d: the first d bytes of word′ are the string that comparing gives, and the rest is that of word
+--   WordHas a b word word′ d: the first d bytes of word′ are the string that comparing gives, and the rest is that of word
 use Prim.Native.Nat.{ℕ, _≤_, _<_}
 use mathlib.Core.Path.{_≡_}
 use mathlib.Core.List.{List}
 use lib.ListN.{length, getD}
-use Rattle.scope.specs.Machine.{Machine}
-use Rattle.scope.specs.Room.{statesOf, machine, Sound}
-use Rattle.scope.specs.Rounds.{Together}
-use Rattle.scope.specs.Separate.{Separation}
-use Rattle.scope.specs.Buffers.{Written}
-use Rattle.sides.specs.Side.{bothLimit, both}
-use Rattle.agree.specs.Parts.{Alike}
-use Rattle.parts.specs.Refined.{Refined}
+use Rattle.scope.specs.Machines.Machine.{Machine}
+use Rattle.scope.specs.Machines.Room.{statesOf, machine, Sound}
+use Rattle.scope.specs.Machines.Rounds.{Together}
+use Rattle.scope.specs.Machines.Separate.{Separation}
+use Rattle.scope.specs.Operations.Buffers.{Written}
+use Rattle.two_rooms.specs.Side.{bothLimit, both}
+use Rattle.parting.specs.Named.{OnePart}
+use Rattle.refinement.specs.Refined.{Refined}
 
 pub record Parted (M : Machine) (low high p q : ℕ) : Type 0 where
   pub before : (k : ℕ) → k < low → Together M k p q
@@ -27,7 +27,7 @@ pub record Apart (part parent born : List ℕ) (p q rounds : ℕ) : Type 0 where
   pub few : machine .states ≤ bothLimit
   pub left : p < machine .states
   pub right : q < machine .states
-  pub two : Alike part p q → ⊥
+  pub two : OnePart part p q → ⊥
 
 pub record Between (part parent born : List ℕ) (p q rounds low high : ℕ) : Type 0 where
   pub within : high ≤ rounds
@@ -41,7 +41,7 @@ pub record Spells (a b part parent born : List ℕ) (d : ℕ) : Type 0 where
   pub within : d ≤ rounds
   pub parted : Parted (both a b) d d 0 (statesOf a)
 
-pub record Holds (a b word word′ : List ℕ) (d : ℕ) : Type 0 where
+pub record WordHas (a b word word′ : List ℕ) (d : ℕ) : Type 0 where
   pub string : List ℕ
   pub separation : Separation (machine a) (machine b) string
   pub long : length string ≡ d

@@ -8,15 +8,15 @@
 use scope::Machine;
 ghost use Prim.Native.Nat.{ℕ, _≤_};
 ghost use lib.ListN.{length};
-ghost use Rattle.sides.specs.Kinds.{Kinds};
-ghost use Rattle.spelling.specs.Word.{Apart, Between, Spells, Holds};
+ghost use Rattle.two_rooms.specs.Kinds.{Kinds};
+ghost use Rattle.spelling.specs.Word.{Apart, Between, Spells, WordHas};
 ghost use Rattle.spelling.specs.Climb.{Climbs, Climbed};
 
 // The part of q after r rounds.
 fn climb(
-    part: &[u16; parts::STATES],
-    parent: &[u16; parts::STATES],
-    born: &[u16; parts::STATES],
+    part: &[u16; refinement::STATES],
+    parent: &[u16; refinement::STATES],
+    born: &[u16; refinement::STATES],
     q: usize,
     r: usize,
 ) -> usize
@@ -32,9 +32,9 @@ fn climb(
 
 // The first round after which p and q, which lie in two parts, are not together: the length of the shortest string that tells them apart.
 pub fn distance(
-    part: &[u16; parts::STATES],
-    parent: &[u16; parts::STATES],
-    born: &[u16; parts::STATES],
+    part: &[u16; refinement::STATES],
+    parent: &[u16; refinement::STATES],
+    born: &[u16; refinement::STATES],
     p: usize,
     q: usize,
     rounds: usize,
@@ -59,9 +59,9 @@ pub fn distance(
 pub fn spell(
     left: &[u8],
     right: &[u8],
-    part: &[u16; parts::STATES],
-    parent: &[u16; parts::STATES],
-    born: &[u16; parts::STATES],
+    part: &[u16; refinement::STATES],
+    parent: &[u16; refinement::STATES],
+    born: &[u16; refinement::STATES],
     least: &[u8; Machine::BYTES],
     long: usize,
     word: &mut [u8],
@@ -69,7 +69,7 @@ pub fn spell(
     requires { ⌜ Spells (now left) (now right) (now part) (now parent) (now born) long ⌝ }
     requires { ⌜ ((count : ℕ) × Kinds (now left) (now right) (now least) count) ⌝ }
     requires { ⌜ long ≤ length (now word) ⌝ }
-    ensures { λ _. ⌜ Holds (now (left .entry)) (now (right .entry)) (now (word .entry)) (now (word .exit)) long ⌝ }
+    ensures { λ _. ⌜ WordHas (now (left .entry)) (now (right .entry)) (now (word .entry)) (now (word .exit)) long ⌝ }
 {
     let mut p: usize = 0;
     let mut q = room::head(left).states;
@@ -83,8 +83,8 @@ pub fn spell(
                 break 'walk;
             }
             let x = least[i];
-            y = sides::step(left, right, p, x);
-            z = sides::step(left, right, q, x);
+            y = two_rooms::step(left, right, p, x);
+            z = two_rooms::step(left, right, q, x);
             let r = long - (at + 1);
             if climb(part, parent, born, y, r) != climb(part, parent, born, z, r) {
                 break x;

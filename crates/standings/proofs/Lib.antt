@@ -1,2 +1,2 @@
 pub mod Standings
-pub mod Laws
+pub mod JoinedText

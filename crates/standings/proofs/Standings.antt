@@ -1,7 +1,7 @@
 -- How a text stands, from one match of it. A text that died within its first bytes was dead before the others came; one that died later was not.
 --   stood: how a text stands, read from its enum
 --   stands-unfinished, stands-dead, stands-lost, stands-short, stands-unsound: how a text stands by each answer
---   Held s, stands-held: a field that is not lost has a sound room and a text that it can have while it is open
+--   StandsHeld s, stands-held: a field that is not lost has a sound room and a text that it can have while it is open
 --   inside: the open field is one of the form's
 --   text-first: its text is what a byte after it leaves
 --   text-held, text-lost: whether the field is one that keys lead to
@@ -16,17 +16,17 @@ use Rattle.scope.specs.Answers.{ROOM, FORM, DEAD}
 use Rattle.scope.specs.Answers as answers
 use Rattle.scope.specs.Bytes.{Bytes}
 use Rattle.scope.specs.Limits.{byteValues}
-use Rattle.scope.specs.Match.{Matches, no-room, no-form, accepted, dead, unfinished}
-use Rattle.scope.specs.Room.{Sound}
-use Rattle.scope.proofs.Match.{determined}
-use Rattle.forms.specs.Form.{fieldLimit, lengthOf, textOf}
-use Rattle.forms.specs.Text.{roomOf, IsAccepted, IsDead}
-use Rattle.forms.specs.Test.{Plain, Kept}
-use Rattle.forms.proofs.Dead.{prefix-kept, accepted-kept}
-use Rattle.forms.proofs.Texts.{text-length, text-bytes}
+use Rattle.scope.specs.Operations.Match.{Matches, no-room, no-form, accepted, dead, unfinished}
+use Rattle.scope.specs.Machines.Room.{Sound}
+use Rattle.scope.proofs.Operations.Match.{determined}
+use Rattle.entry_form.specs.EntryForm.{fieldLimit, lengthOf, textOf}
+use Rattle.entry_form.specs.Text.{fieldRoom, IsAccepted, IsDead}
+use Rattle.entry_form.specs.ValidForm.{Plain, OpenText}
+use Rattle.entry_form.proofs.Dead.{prefix-kept, accepted-kept}
+use Rattle.entry_form.proofs.Texts.{text-length, text-bytes}
 use Rattle.standings.specs.declared.Standing.{Standing}
 use Rattle.standings.specs.Stand as stand
-use Rattle.standings.specs.Stand.{Stands, Begun}
+use Rattle.standings.specs.Stand.{Stands, OtherFields}
 
 -- how a text was found to stand, read from its enum
 pub stood : {room text : List ℕ} {kept : ℕ} {s t : Standing} → Stands room text kept s → s ≡ t → Stands room text kept t
@@ -86,14 +86,14 @@ module _ {room text : List ℕ} {kept : ℕ} (within : kept ≤ length text) whe
   stands-unsound (no-form h n) = stand.lost (λ s k. n s)
 
 -- a field that is not lost
-abbrev pub Held : Standing → Type 0
-Held Standing.Accepted = Unit {0}
-Held Standing.Unfinished = Unit {0}
-Held Standing.Dead = Unit {0}
-Held Standing.Lost = ⊥
+abbrev pub StandsHeld : Standing → Type 0
+StandsHeld Standing.Accepted = Unit {0}
+StandsHeld Standing.Unfinished = Unit {0}
+StandsHeld Standing.Dead = Unit {0}
+StandsHeld Standing.Lost = ⊥
 
 -- has a sound room, and first bytes that it can have while it is open
-pub stands-held : {room text : List ℕ} {kept : ℕ} {s : Standing} → Bytes text → Stands room text kept s → Held s → Sound room × Kept room (take kept text)
+pub stands-held : {room text : List ℕ} {kept : ℕ} {s : Standing} → Bytes text → Stands room text kept s → StandsHeld s → Sound room × OpenText room (take kept text)
 stands-held {kept = k} g (stand.accepted a) h = (accepted-sound a, inr (prefix-kept k (accepted-kept g a)))
 stands-held {kept = k} g (stand.unfinished s a d) h = (s, inr (prefix-kept k d))
 stands-held g (stand.dead d k) h = (dead-sound (d .matched), k)
@@ -102,10 +102,10 @@ stands-held g (stand.lost n) h = absurd h
 -- ---- the open field
 
 -- it is one of the form's
-pub inside : {rooms form : List ℕ} {f : ℕ} → Begun rooms form f → f < fieldLimit
+pub inside : {rooms form : List ℕ} {f : ℕ} → OtherFields rooms form f → f < fieldLimit
 inside b = omega (arith, b .is-open, b .fields .few)
 
-module _ {rooms form : List ℕ} {f : ℕ} (b : Begun rooms form f) (p : Plain form f) (known : (i : ℕ) → getD form i 0 < byteValues) where
+module _ {rooms form : List ℕ} {f : ℕ} (b : OtherFields rooms form f) (p : Plain form f) (known : (i : ℕ) → getD form i 0 < byteValues) where
   -- the text of the field is as long as the form says
   long : length (textOf form f) ≡ lengthOf form f
   long = text-length form f (b .lent .form-long) (inside b) (p .short)
@@ -118,8 +118,8 @@ module _ {rooms form : List ℕ} {f : ℕ} (b : Begun rooms form f) (p : Plain f
   text-first key = take-append-le (lengthOf form f) (textOf form f) (key ∷ []) (omega (arith, long)) ∙ whole
 
   -- the field as it is
-  pub text-held : {s : Standing} → Stands (roomOf rooms f) (textOf form f) (lengthOf form f) s → Held s → Sound (roomOf rooms f) × Kept (roomOf rooms f) (textOf form f)
+  pub text-held : {s : Standing} → Stands (fieldRoom rooms f) (textOf form f) (lengthOf form f) s → StandsHeld s → Sound (fieldRoom rooms f) × OpenText (fieldRoom rooms f) (textOf form f)
   text-held u h = rw whole at (stands-held (text-bytes form f known) u h)
 
-  pub text-lost : Stands (roomOf rooms f) (textOf form f) (lengthOf form f) Standing.Lost → Sound (roomOf rooms f) × Kept (roomOf rooms f) (textOf form f) → ⊥
+  pub text-lost : Stands (fieldRoom rooms f) (textOf form f) (lengthOf form f) Standing.Lost → Sound (fieldRoom rooms f) × OpenText (fieldRoom rooms f) (textOf form f) → ⊥
   text-lost (stand.lost n) h = n (h .0) (rw whole (h .1))

@@ -16,11 +16,11 @@ use native.Mathlib.Numerals.{add-one}
 use lib.ListN.{length, take, drop, set, getD, length-append, length-set, take-append-drop}
 use lib.Seq.{take-all, take-suc, take-suc-set, take-append-le, getD-set-other, getD-take}
 use Rattle.scope.specs.Limits.{patternLimit}
-use Rattle.scope.specs.Buffers.{TailKept}
+use Rattle.scope.specs.Operations.Buffers.{TailKept}
 use Rattle.scope.specs.Lines.{firstLine, secondLine}
-use Rattle.scope.proofs.Buffers.{tail-one}
+use Rattle.scope.proofs.Operations.Buffers.{tail-one}
 use Rattle.take_lines.specs.declared.Taking.{Taking}
-use Rattle.take_lines.specs.Taking.{ends, Held, Grown, Kept, Taken, Takes}
+use Rattle.take_lines.specs.Taking.{lineEnds, Held, Grown, GrownBy, Taken, TakesBlock}
 use Rattle.take_lines.proofs.Ending.{ends-join, ends-end, ends-byte, first-over, first-end, first-byte, second-before, second-over, second-end, second-byte}
 
 -- ---- one line
@@ -47,7 +47,7 @@ grown-join p q =
       };
     }
 
-pub kept-stored : (b n : ℕ) (l : List ℕ) → n < patternLimit → patternLimit ≤ length l → Kept b n (n + 1) l (set l n b)
+pub kept-stored : (b n : ℕ) (l : List ℕ) → n < patternLimit → patternLimit ≤ length l → GrownBy b n (n + 1) l (set l n b)
 kept-stored b n l few room =
     record {
       grown = record {
@@ -65,7 +65,7 @@ kept-stored b n l few room =
           };
     }
 
-pub kept-dropped : (b n n′ : ℕ) (l : List ℕ) → patternLimit ≤ n → n′ ≡ max n (patternLimit + 1) → Kept b n n′ l l
+pub kept-dropped : (b n n′ : ℕ) (l : List ℕ) → patternLimit ≤ n → n′ ≡ max n (patternLimit + 1) → GrownBy b n n′ l l
 kept-dropped b n n′ l many e =
     record {
       grown = record { more = omega arith; rest = record { size = refl; outside = λ i h. refl } };
@@ -80,10 +80,10 @@ kept-dropped b n n′ l many e =
 -- ---- both lines
 
 pub taken-begin : (l r : List ℕ) → Taken [] (record { line = 0; first = 0; second = 0 }) l r
-unfolding ends firstLine secondLine
+unfolding lineEnds firstLine secondLine
 taken-begin l r = record { line = refl; first = record { count = refl; bytes = refl }; second = record { count = refl; bytes = refl } }
 
-pub takes-none : (t : Taking) (l r : List ℕ) → Takes [] t t l l r r
+pub takes-none : (t : Taking) (l r : List ℕ) → TakesBlock [] t t l l r r
 takes-none t l r =
     record {
       left-grown = grown-none (t .first) l;
@@ -91,7 +91,7 @@ takes-none t l r =
       taken = λ s h. subst (λ (u : List ℕ). Taken u t l r) (sym (append-nil s)) h;
     }
 
-pub takes-join : {u v : List ℕ} {t p q : Taking} {a b c d e f : List ℕ} → Takes u t p a b d e → Takes v p q b c e f → Takes (u ++ v) t q a c d f
+pub takes-join : {u v : List ℕ} {t p q : Taking} {a b c d e f : List ℕ} → TakesBlock u t p a b d e → TakesBlock v p q b c e f → TakesBlock (u ++ v) t q a c d f
 takes-join {u} {v} {t} {p} {q} {a} {b} {c} {d} {e} {f} x y =
     record {
       left-grown = grown-join (x .left-grown) (y .left-grown);
@@ -99,7 +99,7 @@ takes-join {u} {v} {t} {p} {q} {a} {b} {c} {d} {e} {f} x y =
       taken = λ s h. subst (λ (w : List ℕ). Taken w q c f) (append-assoc s u v) (y .taken (s ++ u) (x .taken s h));
     }
 
-pub takes-end : (b : ℕ) (t : Taking) (l r : List ℕ) → b ≡ 0x0A → t .line < 2 → Takes (b ∷ []) t (record { line = t .line + 1; first = t .first; second = t .second }) l l r r
+pub takes-end : (b : ℕ) (t : Taking) (l r : List ℕ) → b ≡ 0x0A → t .line < 2 → TakesBlock (b ∷ []) t (record { line = t .line + 1; first = t .first; second = t .second }) l l r r
 takes-end b t l r e few =
     record {
       left-grown = grown-none (t .first) l;
@@ -112,14 +112,14 @@ takes-end b t l r e few =
           };
     }
 
-pub takes-first : (b n : ℕ) (t : Taking) {l l′ : List ℕ} (r : List ℕ) → (b ≡ 0x0A → ⊥) → t .line ≡ 0 → Kept b (t .first) n l l′
-    → Takes (b ∷ []) t (record { line = 0; first = n; second = t .second }) l l′ r r
+pub takes-first : (b n : ℕ) (t : Taking) {l l′ : List ℕ} (r : List ℕ) → (b ≡ 0x0A → ⊥) → t .line ≡ 0 → GrownBy b (t .first) n l l′
+    → TakesBlock (b ∷ []) t (record { line = 0; first = n; second = t .second }) l l′ r r
 takes-first b n t {l} {l′} r e none k =
     record {
       left-grown = k .grown;
       right-grown = grown-none (t .second) r;
       taken = λ s h.
-          let no-end : ends s ≡ 0 = omega (arith, h .line) in
+          let no-end : lineEnds s ≡ 0 = omega (arith, h .line) in
           record {
             line = omega (arith, ends-byte s b e);
             first = rw (first-byte s b e no-end) (k .held (firstLine s) (h .first));
@@ -127,14 +127,14 @@ takes-first b n t {l} {l′} r e none k =
           };
     }
 
-pub takes-second : (b n : ℕ) (t : Taking) (l : List ℕ) {r r′ : List ℕ} → (b ≡ 0x0A → ⊥) → t .line < 2 → (t .line ≡ 0 → ⊥) → Kept b (t .second) n r r′
-    → Takes (b ∷ []) t (record { line = t .line; first = t .first; second = n }) l l r r′
+pub takes-second : (b n : ℕ) (t : Taking) (l : List ℕ) {r r′ : List ℕ} → (b ≡ 0x0A → ⊥) → t .line < 2 → (t .line ≡ 0 → ⊥) → GrownBy b (t .second) n r r′
+    → TakesBlock (b ∷ []) t (record { line = t .line; first = t .first; second = n }) l l r r′
 takes-second b n t l {r} {r′} e few some k =
     record {
       left-grown = grown-none (t .first) l;
       right-grown = k .grown;
       taken = λ s h.
-          let one-end : ends s ≡ 1 = omega (arith, h .line) in
+          let one-end : lineEnds s ≡ 1 = omega (arith, h .line) in
           record {
             line = omega (arith, h .line, ends-byte s b e);
             first = rw (first-over s (b ∷ []) (omega arith)) (h .first);
@@ -142,13 +142,13 @@ takes-second b n t l {r} {r′} e few some k =
           };
     }
 
-pub takes-over : (v : List ℕ) (t : Taking) (l r : List ℕ) → 2 ≤ t .line → Takes v t t l l r r
+pub takes-over : (v : List ℕ) (t : Taking) (l r : List ℕ) → 2 ≤ t .line → TakesBlock v t t l l r r
 takes-over v t l r over =
     record {
       left-grown = grown-none (t .first) l;
       right-grown = grown-none (t .second) r;
       taken = λ s h.
-          let two : 2 ≤ ends s = omega (arith, h .line) in
+          let two : 2 ≤ lineEnds s = omega (arith, h .line) in
           record {
             line = omega (arith, h .line, ends-join s v);
             first = rw (first-over s v (omega arith)) (h .first);
@@ -158,15 +158,15 @@ takes-over v t l r over =
 
 -- ---- a block, byte by byte
 
-module _ {t p : Taking} {a b d e : List ℕ} (block : List ℕ) (i : ℕ) (x : Takes (take i block) t p a b d e) where
-  pub takes-more : {q : Taking} {c f : List ℕ} → i < length block → Takes (getD block i 0 ∷ []) p q b c e f → Takes (take (i + 1) block) t q a c d f
+module _ {t p : Taking} {a b d e : List ℕ} (block : List ℕ) (i : ℕ) (x : TakesBlock (take i block) t p a b d e) where
+  pub takes-more : {q : Taking} {c f : List ℕ} → i < length block → TakesBlock (getD block i 0 ∷ []) p q b c e f → TakesBlock (take (i + 1) block) t q a c d f
   takes-more h y = rw (add-one i, take-suc block i 0) (takes-join x y)
 
-  pub takes-rest : 2 ≤ p .line → Takes block t p a b d e
-  takes-rest over = subst (λ (u : List ℕ). Takes u t p a b d e) (take-append-drop i block) (takes-join x (takes-over (drop i block) p b e over))
+  pub takes-rest : 2 ≤ p .line → TakesBlock block t p a b d e
+  takes-rest over = subst (λ (u : List ℕ). TakesBlock u t p a b d e) (take-append-drop i block) (takes-join x (takes-over (drop i block) p b e over))
 
-  pub takes-whole : length block ≤ i → Takes block t p a b d e
-  takes-whole h = subst (λ (u : List ℕ). Takes u t p a b d e) (take-all i block h) x
+  pub takes-whole : length block ≤ i → TakesBlock block t p a b d e
+  takes-whole h = subst (λ (u : List ℕ). TakesBlock u t p a b d e) (take-all i block h) x
 
 -- ---- what is determined
 
@@ -175,7 +175,7 @@ held-one {s} {a} {b} {c} {m} {n} x y p q =
     let same : m ≡ n = x .count ∙ sym (y .count) in (same, tail-one p (rw same q) (λ i h. sym (getD-take (min m patternLimit) b i 0 h) ∙ ap (λ l. getD l i 0) (x .bytes ∙ sym (y .bytes)) ∙ getD-take (min n patternLimit) c i 0 (omega arith)))
 
 -- after an input there is one answer to a block, and one way to leave the buffers
-pub takes-one : {u s a b c d e f : List ℕ} {t p q : Taking} → Taken s t a d → Takes u t p a b d e → Takes u t q a c d f → (p ≡ q) × (b ≡ c) × (e ≡ f)
+pub takes-one : {u s a b c d e f : List ℕ} {t p q : Taking} → Taken s t a d → TakesBlock u t p a b d e → TakesBlock u t q a c d f → (p ≡ q) × (b ≡ c) × (e ≡ f)
 takes-one {s = s} {p = p} {q = q} h x y =
     let v = x .taken s h in
     let w = y .taken s h in

@@ -3,7 +3,7 @@ ghost use mathlib.Core.List.{List, [], _∷_};
 ghost use Prim.Native.Nat.{ℕ, _≤_, _<_};
 ghost use lib.ListN.{length};
 ghost use Rattle.scope.specs.Limits.{patternLimit};
-ghost use Rattle.take_lines.specs.Taking.{Kept, Taken, Takes};
+ghost use Rattle.take_lines.specs.Taking.{GrownBy, Taken, TakesBlock};
 use scope::Machine;
 
 // How far the two lines are taken: how many of them are ended, and their lengths so far; one more than a pattern may have stands for any more.
@@ -27,7 +27,7 @@ pub fn begin() -> Taking
 // Puts one byte more to a line of so many bytes; answers how many it then has.
 fn keep(line: &mut [u8], count: usize, byte: u8) -> usize
     requires { ⌜ patternLimit ≤ length (now line) ⌝ }
-    ensures { λ r. ⌜ Kept byte count r (now (line .entry)) (now (line .exit)) ⌝ }
+    ensures { λ r. ⌜ GrownBy byte count r (now (line .entry)) (now (line .exit)) ⌝ }
 {
     if count < Machine::PATTERN {
         line[count] = byte;
@@ -42,7 +42,7 @@ fn keep(line: &mut [u8], count: usize, byte: u8) -> usize
 // Takes one byte of the input, where the second line is not ended.
 fn take_byte(t: Taking, byte: u8, left: &mut [u8], right: &mut [u8]) -> Taking
     requires { ⌜ (t .line < 2) × (patternLimit ≤ length (now left)) × (patternLimit ≤ length (now right)) ⌝ }
-    ensures { λ r. ⌜ Takes (byte ∷ []) t r (now (left .entry)) (now (left .exit)) (now (right .entry)) (now (right .exit)) ⌝ }
+    ensures { λ r. ⌜ TakesBlock (byte ∷ []) t r (now (left .entry)) (now (left .exit)) (now (right .entry)) (now (right .exit)) ⌝ }
 {
     if byte == b'\n' {
         return Taking {
@@ -70,7 +70,7 @@ fn take_byte(t: Taking, byte: u8, left: &mut [u8], right: &mut [u8]) -> Taking
 // Takes one block of the input: the bytes of the two lines go into `left` and `right`.
 pub fn take_block(t: Taking, block: &[u8], left: &mut [u8], right: &mut [u8]) -> Taking
     requires { ⌜ (patternLimit ≤ length (now left)) × (patternLimit ≤ length (now right)) ⌝ }
-    ensures { λ r. ⌜ Takes (now (block .entry)) t r (now (left .entry)) (now (left .exit)) (now (right .entry)) (now (right .exit)) ⌝ }
+    ensures { λ r. ⌜ TakesBlock (now (block .entry)) t r (now (left .entry)) (now (left .exit)) (now (right .entry)) (now (right .exit)) ⌝ }
 {
     let mut so_far = t;
     let mut i = 0;

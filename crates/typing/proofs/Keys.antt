@@ -14,29 +14,29 @@ use borrow.Author.Tests.{ne-eqb}
 use lib.ListN.{length, getD, set, take, length-set}
 use lib.Seq.{getD-set-same, getD-set-other}
 use Rattle.scope.specs.Answers.{DONE, FORM}
-use Rattle.scope.specs.Buffers.{TailKept}
+use Rattle.scope.specs.Operations.Buffers.{TailKept}
 use Rattle.scope.specs.Limits.{byteValues}
-use Rattle.scope.specs.Room.{Sound}
-use Rattle.scope.proofs.Buffers.{all-kept}
-use Rattle.scope.proofs.Run.{bytes-append}
-use Rattle.scope.proofs.Tests.{split}
-use Rattle.forms.specs.Text.{BACK, CLOSE, Literal, roomOf, IsAccepted, IsDead}
-use Rattle.forms.specs.Form.{fieldLimit, textLimit, lengthsAt, textsAt, formBytes, countOf, lengthOf, textOf}
-use Rattle.forms.specs.Test.{Plain, Kept, Valid}
-use Rattle.forms.proofs.Dead.{accepted-kept}
-use Rattle.forms.proofs.Texts.{text-length, text-bytes, empty-plain}
+use Rattle.scope.specs.Machines.Room.{Sound}
+use Rattle.scope.proofs.Operations.Buffers.{all-kept}
+use Rattle.scope.proofs.Machines.Run.{bytes-append}
+use Rattle.scope.proofs.Counting.Tests.{split}
+use Rattle.entry_form.specs.Text.{BACK, CLOSE, Literal, fieldRoom, IsAccepted, IsDead}
+use Rattle.entry_form.specs.EntryForm.{fieldLimit, textLimit, lengthsAt, textsAt, formBytes, countOf, lengthOf, textOf}
+use Rattle.entry_form.specs.ValidForm.{Plain, OpenText, Valid}
+use Rattle.entry_form.proofs.Dead.{accepted-kept}
+use Rattle.entry_form.proofs.Texts.{text-length, text-bytes, empty-plain}
 use Rattle.standings.specs.declared.Standing.{Standing}
-use Rattle.standings.specs.Stand.{Stands, Begun}
+use Rattle.standings.specs.Stand.{Stands, OtherFields}
 use Rattle.standings.specs.Stand as stand
-use Rattle.standings.proofs.Standings.{accepted-sound, Held, stands-held, inside, text-first, text-held, text-lost}
-use Rattle.entries.specs.Answers.{DEAD-BYTE, UNFINISHED, LENGTH}
-use Rattle.entries.specs.Entry.{Entry, openText, retyped}
-use Rattle.entries.specs.Show.{Shows}
-use Rattle.entries.specs.Key.{taken-back, field-closed, not-finished, too-long, dead-byte, byte-taken}
-use Rattle.entries.specs.Press.{Ready, Presses, answered}
-use Rattle.entries.proofs.Typed.{retyped-here, retyped-there}
-use Rattle.entries.proofs.Exact.{Found, valid-given}
-use Rattle.entries.proofs.Press.{refused}
+use Rattle.standings.proofs.Standings.{accepted-sound, StandsHeld, stands-held, inside, text-first, text-held, text-lost}
+use Rattle.desk_rules.specs.DeskAnswers.{DEAD-BYTE, UNFINISHED-KEY, LENGTH}
+use Rattle.desk_rules.specs.Entry.{Entry, openText, retyped}
+use Rattle.desk_rules.specs.Show.{Shows}
+use Rattle.desk_rules.specs.Key.{taken-back, field-closed, not-finished, too-long, dead-byte, byte-taken}
+use Rattle.desk_rules.specs.Press.{Ready, Presses, answered}
+use Rattle.desk_rules.proofs.Typed.{retyped-here, retyped-there}
+use Rattle.desk_rules.proofs.Exact.{ShownEntry, valid-given}
+use Rattle.desk_rules.proofs.Press.{refused}
 use Rattle.retyping.specs.Retype.{Retyped}
 
 -- ---- another text in the open field
@@ -67,15 +67,15 @@ module _ {form form′ : List ℕ} {f : ℕ} {t : List ℕ} (h : f < fieldLimit)
 
 -- ---- the open field
 
-module _ {rooms form : List ℕ} {f : ℕ} (b : Begun rooms form f) where
+module _ {rooms form : List ℕ} {f : ℕ} (b : OtherFields rooms form f) where
   -- it is no field that keys lead to
   pub presses-unplain : {key : ℕ} → (Plain form f → ⊥) → Presses rooms form form key FORM
   presses-unplain n = refused (b .lent) (λ s v. n (v .plain f (inside b)))
 
-  pub presses-lost : {key : ℕ} → (Sound (roomOf rooms f) → Kept (roomOf rooms f) (textOf form f) → ⊥) → Presses rooms form form key FORM
+  pub presses-lost : {key : ℕ} → (Sound (fieldRoom rooms f) → OpenText (fieldRoom rooms f) (textOf form f) → ⊥) → Presses rooms form form key FORM
   presses-lost n = refused (b .lent) (λ s v. n (s f (b .is-open)) (rw (b .at) at (v .open-kept (omega (arith, b .at, b .is-open)))))
 
-  module _ (p : Plain form f) (known : (i : ℕ) → getD form i 0 < byteValues) (s : Sound (roomOf rooms f)) (k : Kept (roomOf rooms f) (textOf form f)) where
+  module _ (p : Plain form f) (known : (i : ℕ) → getD form i 0 < byteValues) (s : Sound (fieldRoom rooms f)) (k : OpenText (fieldRoom rooms f) (textOf form f)) where
     -- what holds of the fields before it, of itself and of those after it holds of all
     each : (P : ℕ → Type 0) → ((g : ℕ) → g < f → P g) → P f → (g : ℕ) → (f + 1 ≤ g → P g) → P g
     each P u v g w = elim (split g f) [
@@ -95,11 +95,11 @@ module _ {rooms form : List ℕ} {f : ℕ} (b : Begun rooms form f) where
     }
 
     -- so keys can give it
-    found : Found rooms form
+    found : ShownEntry rooms form
     found = valid-given (b .lent .form-long) known valid
 
     abbrev ready : Ready rooms form
-    ready = record { sound = λ g h. each (λ x. Sound (roomOf rooms x)) (λ x y. accepted-sound (b .closed x y .accepted)) s g (b .sound g h); given = found .given }
+    ready = record { sound = λ g h. each (λ x. Sound (fieldRoom rooms x)) (λ x y. accepted-sound (b .closed x y .accepted)) s g (b .sound g h); given = found .given }
 
     -- with this entry
     abbrev entry : Entry
@@ -123,7 +123,7 @@ module _ {rooms form : List ℕ} {f : ℕ} (b : Begun rooms form f) where
         answered (b .lent) ready (taken-back is-open refl) (rw (size, open-text) (shows-retyped (inside b) r (found .given .shows) closed-at)) (tail-retyped (inside b) r)
 
     -- 0x0D on an accepted text
-    presses-closed : IsAccepted (roomOf rooms f) (textOf form f) → Presses rooms form (set form 1 (f + 1)) CLOSE DONE
+    presses-closed : IsAccepted (fieldRoom rooms f) (textOf form f) → Presses rooms form (set form 1 (f + 1)) CLOSE DONE
     presses-closed a = answered (b .lent) ready (field-closed is-open refl (rw (closed-at, open-text) a)) (record {
       count = getD-set-other form 1 0 (f + 1) 0 (λ x. omega arith) ∙ shows .count;
       closed = getD-set-same form 1 (f + 1) 0 (omega (arith, b .lent .form-long)) ∙ rw closed-at refl;
@@ -135,7 +135,7 @@ module _ {rooms form : List ℕ} {f : ℕ} (b : Begun rooms form f) where
         shows = found .given .shows
 
     -- on any other
-    presses-unfinished : (IsAccepted (roomOf rooms f) (textOf form f) → ⊥) → Presses rooms form form CLOSE UNFINISHED
+    presses-unfinished : (IsAccepted (fieldRoom rooms f) (textOf form f) → ⊥) → Presses rooms form form CLOSE UNFINISHED-KEY
     presses-unfinished n =
         answered (b .lent) ready (not-finished is-open refl (λ a. n (rw (closed-at, open-text) at a))) (found .given .shows) (all-kept form formBytes)
 
@@ -144,39 +144,39 @@ module _ {rooms form : List ℕ} {f : ℕ} (b : Begun rooms form f) where
     presses-long l e = answered (b .lent) ready (too-long is-open l (omega (arith, size))) (found .given .shows) (all-kept form formBytes)
 
     -- a byte with which the field is dead
-    presses-dead : {key : ℕ} → Literal key → lengthOf form f < textLimit → IsDead (roomOf rooms f) (textOf form f ++ (key ∷ [])) → Presses rooms form form key DEAD-BYTE
+    presses-dead : {key : ℕ} → Literal key → lengthOf form f < textLimit → IsDead (fieldRoom rooms f) (textOf form f ++ (key ∷ [])) → Presses rooms form form key DEAD-BYTE
     presses-dead l h d = answered (b .lent) ready (dead-byte is-open l (omega (arith, size)) (rw (closed-at, open-text) d)) (found .given .shows) (all-kept form formBytes)
 
     -- a byte that is taken
-    presses-taken : {key : ℕ} {form′ : List ℕ} → Literal key → lengthOf form f < textLimit → (IsDead (roomOf rooms f) (textOf form f ++ (key ∷ [])) → ⊥)
+    presses-taken : {key : ℕ} {form′ : List ℕ} → Literal key → lengthOf form f < textLimit → (IsDead (fieldRoom rooms f) (textOf form f ++ (key ∷ [])) → ⊥)
         → Retyped form form′ f (textOf form f ++ (key ∷ [])) → Presses rooms form form′ key DONE
     presses-taken {key} l h n r = answered (b .lent) ready (byte-taken is-open l (omega (arith, size)) (λ d. n (rw (closed-at, open-text) at d)))
         (rw (ne-eqb key BACK (l .0), ne-eqb key CLOSE (l .1), open-text) (shows-retyped (inside b) r (found .given .shows) closed-at)) (tail-retyped (inside b) r)
 
 -- ---- by how the field stands
 
-module _ {rooms form : List ℕ} {f : ℕ} (b : Begun rooms form f) (p : Plain form f) (known : (i : ℕ) → getD form i 0 < byteValues) where
+module _ {rooms form : List ℕ} {f : ℕ} (b : OtherFields rooms form f) (p : Plain form f) (known : (i : ℕ) → getD form i 0 < byteValues) where
   -- the field as it is
   abbrev Stood : Standing → Type 0
-  Stood s = Stands (roomOf rooms f) (textOf form f) (lengthOf form f) s
+  Stood s = Stands (fieldRoom rooms f) (textOf form f) (lengthOf form f) s
 
   -- 0x0D
   pub closes : Stood Standing.Accepted → Presses rooms form (set form 1 (f + 1)) CLOSE DONE
   closes u = let h = text-held b p known u tt in presses-closed b p known (h .0) (h .1) (go u)
     where
-      go : Stood Standing.Accepted → IsAccepted (roomOf rooms f) (textOf form f)
+      go : Stood Standing.Accepted → IsAccepted (fieldRoom rooms f) (textOf form f)
       go (stand.accepted a) = a
 
-  pub closes-unfinished : Stood Standing.Unfinished → Presses rooms form form CLOSE UNFINISHED
+  pub closes-unfinished : Stood Standing.Unfinished → Presses rooms form form CLOSE UNFINISHED-KEY
   closes-unfinished u = let h = text-held b p known u tt in presses-unfinished b p known (h .0) (h .1) (go u)
     where
-      go : Stood Standing.Unfinished → IsAccepted (roomOf rooms f) (textOf form f) → ⊥
+      go : Stood Standing.Unfinished → IsAccepted (fieldRoom rooms f) (textOf form f) → ⊥
       go (stand.unfinished s n d) = n
 
-  pub closes-dead : Stood Standing.Dead → Presses rooms form form CLOSE UNFINISHED
+  pub closes-dead : Stood Standing.Dead → Presses rooms form form CLOSE UNFINISHED-KEY
   closes-dead u = let h = text-held b p known u tt in presses-unfinished b p known (h .0) (h .1) (go u)
     where
-      go : Stood Standing.Dead → IsAccepted (roomOf rooms f) (textOf form f) → ⊥
+      go : Stood Standing.Dead → IsAccepted (fieldRoom rooms f) (textOf form f) → ⊥
       go (stand.dead d k) a = accepted-kept (text-bytes form f known) a d
 
   pub closes-lost : {key : ℕ} → Stood Standing.Lost → Presses rooms form form key FORM
@@ -185,33 +185,33 @@ module _ {rooms form : List ℕ} {f : ℕ} (b : Begun rooms form f) (p : Plain f
   -- the field with a byte after it
   module _ {key : ℕ} (byte : key < byteValues) (l : Literal key) (h : lengthOf form f < textLimit) where
     abbrev Typed : Standing → Type 0
-    Typed s = Stands (roomOf rooms f) (textOf form f ++ (key ∷ [])) (lengthOf form f) s
+    Typed s = Stands (fieldRoom rooms f) (textOf form f ++ (key ∷ [])) (lengthOf form f) s
 
     -- where it is not lost, neither is the field as it is
-    typed-held : {s : Standing} → Typed s → Held s → Sound (roomOf rooms f) × Kept (roomOf rooms f) (textOf form f)
+    typed-held : {s : Standing} → Typed s → StandsHeld s → Sound (fieldRoom rooms f) × OpenText (fieldRoom rooms f) (textOf form f)
     typed-held u h = rw (text-first b p known key) at (stands-held (bytes-append (textOf form f) (key ∷ []) (text-bytes form f known) (byte, tt)) u h)
 
     module _ {form′ : List ℕ} (r : Retyped form form′ f (textOf form f ++ (key ∷ []))) where
       pub types-accepted : Typed Standing.Accepted → Presses rooms form form′ key DONE
       types-accepted u = let k = typed-held u tt in presses-taken b p known (k .0) (k .1) l h (go u) r
         where
-          go : Typed Standing.Accepted → IsDead (roomOf rooms f) (textOf form f ++ (key ∷ [])) → ⊥
+          go : Typed Standing.Accepted → IsDead (fieldRoom rooms f) (textOf form f ++ (key ∷ [])) → ⊥
           go (stand.accepted a) = accepted-kept (bytes-append (textOf form f) (key ∷ []) (text-bytes form f known) (byte, tt)) a
 
       pub types-unfinished : Typed Standing.Unfinished → Presses rooms form form′ key DONE
       types-unfinished u = let k = typed-held u tt in presses-taken b p known (k .0) (k .1) l h (go u) r
         where
-          go : Typed Standing.Unfinished → IsDead (roomOf rooms f) (textOf form f ++ (key ∷ [])) → ⊥
+          go : Typed Standing.Unfinished → IsDead (fieldRoom rooms f) (textOf form f ++ (key ∷ [])) → ⊥
           go (stand.unfinished s n d) = d
 
     pub types-dead : Typed Standing.Dead → Presses rooms form form key DEAD-BYTE
     types-dead u = let k = typed-held u tt in presses-dead b p known (k .0) (k .1) l h (go u)
       where
-        go : Typed Standing.Dead → IsDead (roomOf rooms f) (textOf form f ++ (key ∷ []))
+        go : Typed Standing.Dead → IsDead (fieldRoom rooms f) (textOf form f ++ (key ∷ []))
         go (stand.dead d k) = d
 
     pub types-lost : Typed Standing.Lost → Presses rooms form form key FORM
     types-lost u = presses-lost b (go u)
       where
-        go : Typed Standing.Lost → Sound (roomOf rooms f) → Kept (roomOf rooms f) (textOf form f) → ⊥
+        go : Typed Standing.Lost → Sound (fieldRoom rooms f) → OpenText (fieldRoom rooms f) (textOf form f) → ⊥
         go (stand.lost n) s k = n s (rw (text-first b p known key) k)

@@ -1,20 +1,20 @@
 // The keys, on a form in which everything but the open field was judged.
-use entries::Pressed;
-use forms::BACK;
-use forms::CLOSE;
-use forms::LENGTHS_AT;
-use forms::TEXT;
-use forms::test;
+use desk_rules::Pressed;
+use entry_form::BACK;
+use entry_form::CLOSE;
+use entry_form::LENGTHS_AT;
+use entry_form::TEXT;
+use entry_form::valid;
 use standings::Standing;
-ghost use Rattle.forms.specs.Text as text;
-ghost use Rattle.forms.specs.Test.{Plain};
-ghost use Rattle.standings.specs.Stand.{Begun};
-ghost use Rattle.entries.specs.Answers.{pressedNumber};
-ghost use Rattle.entries.specs.Press.{Presses};
+ghost use Rattle.entry_form.specs.Text as text;
+ghost use Rattle.entry_form.specs.ValidForm.{Plain};
+ghost use Rattle.standings.specs.Stand.{OtherFields};
+ghost use Rattle.desk_rules.specs.DeskAnswers.{pressedNumber};
+ghost use Rattle.desk_rules.specs.Press.{Presses};
 
 // The key that takes back the last byte.
 fn take_back(rooms: &[u8], form: &mut [u8], f: usize) -> Pressed
-    requires { ⌜ Begun (now rooms) (now form) f × Plain (now form) f ⌝ }
+    requires { ⌜ OtherFields (now rooms) (now form) f × Plain (now form) f ⌝ }
     ensures { λ r. ⌜ Presses (now (rooms .entry)) (now (form .entry)) (now (form .exit)) text.BACK (pressedNumber r) ⌝ }
 {
     if !standings::is_kept(rooms, form, f) {
@@ -26,7 +26,7 @@ fn take_back(rooms: &[u8], form: &mut [u8], f: usize) -> Pressed
 
 // The key that closes the field.
 fn close(rooms: &[u8], form: &mut [u8], f: usize) -> Pressed
-    requires { ⌜ Begun (now rooms) (now form) f × Plain (now form) f ⌝ }
+    requires { ⌜ OtherFields (now rooms) (now form) f × Plain (now form) f ⌝ }
     ensures { λ r. ⌜ Presses (now (rooms .entry)) (now (form .entry)) (now (form .exit)) text.CLOSE (pressedNumber r) ⌝ }
 {
     let standing = standings::of_text(rooms, form, f);
@@ -43,7 +43,7 @@ fn close(rooms: &[u8], form: &mut [u8], f: usize) -> Pressed
 
 // Any other byte.
 fn add(rooms: &[u8], form: &mut [u8], f: usize, key: u8) -> Pressed
-    requires { ⌜ Begun (now rooms) (now form) f × Plain (now form) f × text.Literal key ⌝ }
+    requires { ⌜ OtherFields (now rooms) (now form) f × Plain (now form) f × text.Literal key ⌝ }
     ensures { λ r. ⌜ Presses (now (rooms .entry)) (now (form .entry)) (now (form .exit)) key (pressedNumber r) ⌝ }
 {
     if form[LENGTHS_AT + f] as usize == TEXT {
@@ -69,10 +69,10 @@ fn add(rooms: &[u8], form: &mut [u8], f: usize, key: u8) -> Pressed
 
 // A key for the open field f.
 pub fn press_open(rooms: &[u8], form: &mut [u8], f: usize, key: u8) -> Pressed
-    requires { ⌜ Begun (now rooms) (now form) f ⌝ }
+    requires { ⌜ OtherFields (now rooms) (now form) f ⌝ }
     ensures { λ r. ⌜ Presses (now (rooms .entry)) (now (form .entry)) (now (form .exit)) key (pressedNumber r) ⌝ }
 {
-    if !test::is_plain(form, f) {
+    if !valid::is_plain(form, f) {
         return Pressed::Form;
     }
     if key == BACK {

@@ -3,7 +3,7 @@ use mathlib.Core.Path.{sym}
 use native.Mathlib.Omega.{arith}
 use lib.Seq.{length-take-le}
 use borrow.Author.Needs.{needs}
-use Rattle.alike.proofs.Laws.{lines-short, reports-fit}
+use Rattle.alike.proofs.InputLines.{lines-short, reports-fit}
 use Rattle.alike.proofs.main.Statement.{statement}
 use Rattle.alike.proofs.main.Tie as tie
 

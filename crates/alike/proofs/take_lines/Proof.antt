@@ -3,7 +3,7 @@ use Prim.Native.Nat.{_-_, _<_}
 use native.Mathlib.Omega.{arith}
 use borrow.Author.Needs.{needs}
 use Rattle.alike.specs.Input.{read, Lines, nothing-came, both-ended, most-read, mostReads}
-use Rattle.alike.proofs.Laws.{lines-more}
+use Rattle.alike.proofs.InputLines.{lines-more}
 use Rattle.alike.proofs.take_lines.Statement.{statement}
 use Rattle.alike.proofs.take_lines.Tie as tie
 

@@ -1,16 +1,16 @@
--- The rows before q are read: `Swept`. There are no more numbers than states, so the rows come to an end.
+-- The rows before q are read: `PlacesSwept`. There are no more numbers than states, so the rows come to an end.
 use Prim.Native.Nat.{_*_, _-_, _≤_}
 use mathlib.Core.Path.{_≡_}
 use native.Mathlib.Omega.{arith}
 use borrow.Author.Needs.{needs}
 use Rattle.scope.specs.Limits.{stateLimit}
-use Rattle.arrivals.specs.Swept.{Swept}
+use Rattle.arrivals.specs.Swept.{PlacesSwept}
 use Rattle.arrivals.proofs.Swept.{swept-none, swept-few, numbers-fit}
 use Rattle.arrivals.proofs.arrivals.Statement.{statement}
 use Rattle.arrivals.proofs.arrivals.Tie as tie
 
 abbrev Inv-loop : tie.InvT-loop
-Inv-loop from part column kinds order₀ number₀ p count₀ q₀ order number count q = (q ≤ count) × Swept from part column order number kinds count (q * kinds)
+Inv-loop from part column kinds order₀ number₀ p count₀ q₀ order number count q = (q ≤ count) × PlacesSwept from part column order number kinds count (q * kinds)
 
 abbrev μ-loop : tie.MeasureT-loop
 μ-loop from part column kinds order₀ number₀ p count₀ q₀ order number count q = stateLimit - q

@@ -1,4 +1,4 @@
--- So many kinds of the row are read: `Row`. A kind whose part has no number gives it the next one.
+-- So many kinds of the row are read: `RowSweep`. A kind whose part has no number gives it the next one.
 use Prim.Native.Nat.{_-_, _≤_}
 use mathlib.Core.Path.{refl}
 use mathlib.Core.Logic.{⊎-elim}
@@ -6,12 +6,12 @@ use native.Mathlib.Nat.{mul-le-mul}
 use native.Mathlib.Omega.{arith}
 use borrow.Author.Needs.{needs}
 use Rattle.scope.specs.Limits.{classLimit}
-use Rattle.arrivals.proofs.Swept.{Row, row-place, row-fewer, row-old, row-new, swept-few, row-end, row-first}
+use Rattle.arrivals.proofs.Swept.{RowSweep, row-place, row-fewer, row-old, row-new, swept-few, row-end, row-first}
 use Rattle.arrivals.proofs.sweep.Statement.{statement}
 use Rattle.arrivals.proofs.sweep.Tie as tie
 
 abbrev Inv-loop : tie.InvT-loop
-Inv-loop from part column kinds q order₀ number₀ count k row count₀ i₀ order number count′ i = Row from part column order number kinds count′ q i row
+Inv-loop from part column kinds q order₀ number₀ count k row count₀ i₀ order number count′ i = RowSweep from part column order number kinds count′ q i row
 
 abbrev μ-loop : tie.MeasureT-loop
 μ-loop from part column kinds q order₀ number₀ count k row count₀ i₀ order number count′ i = kinds - i

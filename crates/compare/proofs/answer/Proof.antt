@@ -2,8 +2,8 @@
 use mathlib.Core.Path.{refl}
 use native.Mathlib.Omega.{arith}
 use borrow.Author.Needs.{needs}
-use Rattle.sides.proofs.ByKind.{most-bytes, columns-of, least-bytes}
-use Rattle.sides.proofs.Rooms.{side-both}
+use Rattle.two_rooms.proofs.ByKind.{most-bytes, columns-of, least-bytes}
+use Rattle.two_rooms.proofs.Rooms.{side-both}
 use Rattle.compare.proofs.Results.{answer-twins, answer-same, answer-apart, answer-spells, answer-fits, answer-separated}
 use Rattle.compare.proofs.answer.Statement.{statement}
 use Rattle.compare.proofs.answer.Tie as tie

@@ -1,7 +1,7 @@
 -- The used cells end within both rooms.
 use native.Mathlib.Omega.{arith}
 use borrow.Author.Needs.{needs}
-use Rattle.scope.proofs.Room.{cells-fit}
+use Rattle.scope.proofs.Machines.Room.{cells-fit}
 use Rattle.compare.proofs.are_twins.Statement.{statement}
 use Rattle.compare.proofs.are_twins.Tie as tie
 

@@ -1,7 +1,7 @@
 -- Each length is judged in its turn; those of the scratch decide in the end.
 use native.Mathlib.Omega.{arith}
 use borrow.Author.Needs.{needs}
-use Rattle.slices.proofs.Laws.{fails}
+use Rattle.buffers.proofs.OneMore.{fails}
 use Rattle.compare.proofs.is_lent.Statement.{statement}
 use Rattle.compare.proofs.is_lent.Tie as tie
 

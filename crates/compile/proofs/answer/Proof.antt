@@ -1,8 +1,8 @@
 -- The length is judged first, then the text; each refusal is the one that the judge gave.
 use native.Mathlib.Omega.{arith}
 use borrow.Author.Needs.{needs}
-use Rattle.scope.specs.Compile.{too-long}
-use Rattle.compile.proofs.Laws.{refused, told}
+use Rattle.scope.specs.Operations.Compile.{too-long}
+use Rattle.compile.proofs.BetweenPasses.{refused, told}
 use Rattle.compile.proofs.answer.Statement.{statement}
 use Rattle.compile.proofs.answer.Tie as tie
 

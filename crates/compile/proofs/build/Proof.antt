@@ -2,8 +2,8 @@
 use native.Mathlib.Omega.{arith}
 use borrow.Author.Needs.{needs}
 use mathlib.Core.Path.{refl}
-use Rattle.scope.specs.Compile.{many-classes, many-sets, compiled}
-use Rattle.compile.proofs.Laws.{outcome, image, answered, recognised}
+use Rattle.scope.specs.Operations.Compile.{many-classes, many-sets, compiled}
+use Rattle.compile.proofs.BetweenPasses.{outcome, image, answered, recognised}
 use Rattle.compile.proofs.build.Statement.{statement}
 use Rattle.compile.proofs.build.Tie as tie
 

@@ -3,9 +3,9 @@ use mathlib.Core.Path.{refl}
 use native.Mathlib.Omega.{arith}
 use borrow.Author.Needs.{needs}
 use borrow.Author.Tests.{not-true, not-false}
-use Rattle.scope.specs.Compile.{no-room}
+use Rattle.scope.specs.Operations.Compile.{no-room}
 use Rattle.scope.specs.Limits.{scratchBytes, scratchWords}
-use Rattle.slices.proofs.Laws.{cleared-after}
+use Rattle.buffers.proofs.OneMore.{cleared-after}
 use Rattle.compile.proofs.compile.Statement.{statement}
 use Rattle.compile.proofs.compile.Tie as tie
 

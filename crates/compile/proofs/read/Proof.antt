@@ -2,7 +2,7 @@
 use native.Mathlib.Omega.{arith}
 use borrow.Author.Needs.{needs}
 use Rattle.sets.specs.Layout.{byteSets, wordSets}
-use Rattle.compile.proofs.Laws.{clear-filled, reads}
+use Rattle.compile.proofs.BetweenPasses.{clear-filled, reads}
 use Rattle.compile.proofs.read.Statement.{statement}
 use Rattle.compile.proofs.read.Tie as tie
 

@@ -4,7 +4,7 @@ use native.Mathlib.Omega.{arith}
 use borrow.Author.Needs.{needs}
 use borrow.Author.Tests.{not-true, not-false}
 use lib.ListN.{length-set}
-use Rattle.entries.specs.Open.{no-fields, no-room, no-form, opened}
+use Rattle.desk_rules.specs.Open.{no-fields, no-room, no-form, opened}
 use Rattle.desk.proofs.Opened.{zeros-shown, zeros-tail}
 use Rattle.desk.proofs.open_form.Statement.{statement}
 use Rattle.desk.proofs.open_form.Tie as tie

@@ -3,8 +3,8 @@ use mathlib.Core.Path.{refl}
 use native.Mathlib.Omega.{arith}
 use borrow.Author.Needs.{needs}
 use borrow.Author.Tests.{not-true, not-false}
-use Rattle.entries.specs.Press.{no-room}
-use Rattle.entries.proofs.Press.{presses-size}
+use Rattle.desk_rules.specs.Press.{no-room}
+use Rattle.desk_rules.proofs.Press.{presses-size}
 use Rattle.desk.proofs.press.Statement.{statement}
 use Rattle.desk.proofs.press.Tie as tie
 

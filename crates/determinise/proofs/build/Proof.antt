@@ -3,8 +3,8 @@ use mathlib.Core.Path.{subst}
 use native.Mathlib.Omega.{arith}
 use borrow.Author.Needs.{needs}
 use Rattle.scope.specs.Limits.{byteValues, roomBytes}
-use Rattle.runs.specs.Runs.{Like}
-use Rattle.classes.specs.Group.{Grouped, GroupAnswer}
+use Rattle.byte_runs.specs.Runs.{Like}
+use Rattle.byte_classes.specs.Group.{Grouped, GroupAnswer}
 use Rattle.sets.specs.Layout.{imageAt}
 use Rattle.determinise.proofs.Givens.{mapped, part-length, put-tail, built, built-classes}
 use Rattle.determinise.proofs.build.Statement.{statement}

@@ -5,9 +5,9 @@ use mathlib.Core.Path.{_≡_, refl, _∙_}
 use native.Mathlib.Omega.{arith}
 use borrow.Author.Needs.{needs}
 use lib.ListN.{length}
-use Rattle.scope.specs.Grammar.{factors}
+use Rattle.scope.specs.Text.Grammar.{factors}
 use Rattle.factors.specs.Answer.{Fit, Carried}
-use Rattle.leaves.proofs.Grammar.{inside}
+use Rattle.leaves.proofs.ByteByByte.{inside}
 use Rattle.factors.proofs.Carried.{carried-none, carried-more, star-fit, star-turn}
 use Rattle.factors.proofs.stars.Statement.{statement}
 use Rattle.factors.proofs.stars.Tie as tie

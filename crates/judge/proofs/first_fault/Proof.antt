@@ -1,7 +1,7 @@
 -- A tally beyond its limit has the first place beyond it.
 use native.Mathlib.Omega.{arith}
 use Rattle.judge.specs.Faults.{nothing, falling, deep, many}
-use Rattle.reading.proofs.Keeps.{within}
+use Rattle.judge_state.proofs.Keeps.{within}
 use Rattle.judge.proofs.first_fault.Statement.{statement}
 use Rattle.judge.proofs.first_fault.Tie as tie
 

@@ -1,7 +1,7 @@
 -- The byte after the first tells a range from a byte.
 use native.Mathlib.Omega.{arith}
-use Rattle.leaves.proofs.Grammar.{class-byte-in}
-use Rattle.leaves.proofs.Classes.{item-low, item-high, item-range, item-lone}
+use Rattle.leaves.proofs.ByteByByte.{class-byte-in}
+use Rattle.leaves.proofs.ClassItems.{item-low, item-high, item-range, item-lone}
 use borrow.Author.Needs.{needs}
 use Rattle.leaves.proofs.item.Statement.{statement}
 use Rattle.leaves.proofs.item.Tie as tie

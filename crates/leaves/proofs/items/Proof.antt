@@ -3,12 +3,12 @@ use Prim.Native.Nat.{_-_}
 use mathlib.Core.Path.{_≡_, refl}
 use borrow.Author.Needs.{needs}
 use lib.ListN.{length}
-use Rattle.leaves.proofs.Classes.{Rests, rest-all, rest-item, rest-more, rest-none}
+use Rattle.leaves.proofs.ClassItems.{ItemsLeft, rest-all, rest-item, rest-more, rest-none}
 use Rattle.leaves.proofs.items.Statement.{statement}
 use Rattle.leaves.proofs.items.Tie as tie
 
 abbrev Inv-loop : tie.InvT-loop
-Inv-loop text at k bytes₀ next₀ bytes next = (length bytes ≡ length bytes₀) × Rests text at next k bytes₀ bytes
+Inv-loop text at k bytes₀ next₀ bytes next = (length bytes ≡ length bytes₀) × ItemsLeft text at next k bytes₀ bytes
 
 abbrev μ-loop : tie.MeasureT-loop
 μ-loop text at k bytes₀ next₀ bytes next = length text - next

@@ -3,7 +3,7 @@ use Prim.Native.Nat.{_+_, _-_}
 use mathlib.Core.Path.{refl}
 use native.Mathlib.Omega.{arith}
 use borrow.Author.Needs.{needs}
-use Rattle.scope.specs.Grammar.{hex}
+use Rattle.scope.specs.Text.Grammar.{hex}
 use Rattle.literals.proofs.Ranges.{values}
 use Rattle.literals.proofs.hex_value.Statement.{statement}
 use Rattle.literals.proofs.hex_value.Tie as tie

@@ -2,7 +2,7 @@
 use mathlib.Core.Path.{refl}
 use mathlib.Core.Bool.{true, false}
 use native.Mathlib.Omega.{arith}
-use Rattle.scope.specs.Grammar.{classLiteral}
+use Rattle.scope.specs.Text.Grammar.{classLiteral}
 use Rattle.literals.proofs.Ranges.{among}
 use Rattle.literals.proofs.is_bare.Statement.{statement}
 use Rattle.literals.proofs.is_bare.Tie as tie

@@ -2,7 +2,7 @@
 use mathlib.Core.Path.{refl}
 use mathlib.Core.Bool.{true, false}
 use native.Mathlib.Omega.{arith}
-use Rattle.scope.specs.Grammar.{escapable}
+use Rattle.scope.specs.Text.Grammar.{escapable}
 use Rattle.literals.proofs.Ranges.{among}
 use Rattle.literals.proofs.is_escapable.Statement.{statement}
 use Rattle.literals.proofs.is_escapable.Tie as tie

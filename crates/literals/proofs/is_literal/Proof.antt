@@ -2,7 +2,7 @@
 use mathlib.Core.Path.{refl}
 use mathlib.Core.Bool.{true, false}
 use native.Mathlib.Omega.{arith}
-use Rattle.scope.specs.Grammar.{literal}
+use Rattle.scope.specs.Text.Grammar.{literal}
 use Rattle.literals.proofs.Ranges.{among}
 use Rattle.literals.proofs.is_literal.Statement.{statement}
 use Rattle.literals.proofs.is_literal.Tie as tie

@@ -3,13 +3,13 @@ use Prim.Native.Nat.{_-_}
 use native.Mathlib.Omega.{arith}
 use borrow.Author.Needs.{needs}
 use Rattle.scope.specs.Limits.{stateLimit}
-use Rattle.live.specs.Live.{Marks, ones}
+use Rattle.live.specs.Live.{SomeLive, ones}
 use Rattle.live.proofs.Alive.{ones-most, live-all}
 use Rattle.live.proofs.live.Statement.{statement}
 use Rattle.live.proofs.live.Tie as tie
 
 abbrev Inv-loop : tie.InvT-loop
-Inv-loop room list count live₀ live = Marks room live
+Inv-loop room list count live₀ live = SomeLive room live
 
 abbrev μ-loop : tie.MeasureT-loop
 μ-loop room list count live₀ live = stateLimit - ones live

@@ -4,14 +4,14 @@ use native.Mathlib.Omega.{arith}
 use borrow.Author.Count.{below-none, below-more}
 use borrow.Author.Needs.{needs}
 use lib.ListN.{length, take}
-use Rattle.scope.specs.Machine.{Completable}
-use Rattle.scope.specs.Room.{machine}
-use Rattle.matching.proofs.Laws.{At, at-start, at-more, inside, live-prefix, prefix-live}
+use Rattle.scope.specs.Machines.Machine.{Completable}
+use Rattle.scope.specs.Machines.Room.{machine}
+use Rattle.matching.proofs.Completable.{LedTo, at-start, at-more, inside, live-prefix, prefix-live}
 use Rattle.matching.proofs.first_dead.Statement.{statement}
 use Rattle.matching.proofs.first_dead.Tie as tie
 
 abbrev Inv-loop : tie.InvT-loop
-Inv-loop room text live q₀ place₀ q place = At (machine room) text place q × ((j : ℕ) → j < place → Completable (machine room) (take j text))
+Inv-loop room text live q₀ place₀ q place = LedTo (machine room) text place q × ((j : ℕ) → j < place → Completable (machine room) (take j text))
 
 abbrev μ-loop : tie.MeasureT-loop
 μ-loop room text live q₀ place₀ q place = length text - place

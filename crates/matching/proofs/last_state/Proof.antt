@@ -3,14 +3,14 @@ use Prim.Native.Nat.{_-_}
 use borrow.Author.Needs.{needs}
 use lib.ListN.{length}
 use Rattle.scope.specs.Limits.{cellsAt}
-use Rattle.scope.specs.Room.{machine}
-use Rattle.slices.proofs.Laws.{part-all}
-use Rattle.matching.proofs.Laws.{At, at-start, at-more, at-end}
+use Rattle.scope.specs.Machines.Room.{machine}
+use Rattle.buffers.proofs.OneMore.{part-all}
+use Rattle.matching.proofs.Completable.{LedTo, at-start, at-more, at-end}
 use Rattle.matching.proofs.last_state.Statement.{statement}
 use Rattle.matching.proofs.last_state.Tie as tie
 
 abbrev Inv-loop : tie.InvT-loop
-Inv-loop room text cells k q₀ i₀ q i = At (machine room) text i q
+Inv-loop room text cells k q₀ i₀ q i = LedTo (machine room) text i q
 
 abbrev μ-loop : tie.MeasureT-loop
 μ-loop room text cells k q₀ i₀ q i = length text - i

@@ -1,8 +1,8 @@
 -- The last state says it: its mark, else its live mark; where that is 0, the place is looked for.
 use native.Mathlib.Omega.{arith}
 use borrow.Author.Needs.{needs}
-use Rattle.scope.specs.Match.{accepted, dead, unfinished}
-use Rattle.matching.proofs.Laws.{accepting, not-accepting, alive}
+use Rattle.scope.specs.Operations.Match.{accepted, dead, unfinished}
+use Rattle.matching.proofs.Completable.{accepting, not-accepting, alive}
 use Rattle.matching.proofs.match_sound.Statement.{statement}
 use Rattle.matching.proofs.match_sound.Tie as tie
 

@@ -1,7 +1,7 @@
 -- ROOM and FORM are judged in their order; what is left is a sound room.
 use borrow.Author.Needs.{needs}
 use borrow.Author.Tests.{not-true, not-false}
-use Rattle.scope.specs.Match.{no-room, no-form}
+use Rattle.scope.specs.Operations.Match.{no-room, no-form}
 use Rattle.matching.proofs.match_text.Statement.{statement}
 use Rattle.matching.proofs.match_text.Tie as tie
 

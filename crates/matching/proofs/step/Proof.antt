@@ -1,7 +1,7 @@
 -- The class of the byte is below k, and the cell for it, counted from the first cell, is the next state.
 use native.Mathlib.Omega.{arith}
 use borrow.Author.Needs.{needs}
-use Rattle.matching.proofs.Laws.{Stepped, stepped}
+use Rattle.matching.proofs.Completable.{Stepped, stepped}
 use Rattle.matching.proofs.step.Statement.{statement}
 use Rattle.matching.proofs.step.Tie as tie
 

@@ -1,7 +1,7 @@
 -- A canonical room is sound, so a room that is not sound is not canonical.
 use borrow.Author.Needs.{needs}
 use borrow.Author.Tests.{not-true, not-false}
-use Rattle.slices.proofs.Laws.{fails}
+use Rattle.buffers.proofs.OneMore.{fails}
 use Rattle.packing.proofs.is_canonical.Statement.{statement}
 use Rattle.packing.proofs.is_canonical.Tie as tie
 

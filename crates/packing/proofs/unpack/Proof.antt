@@ -3,9 +3,9 @@ use mathlib.Core.Path.{refl, _∙_}
 use native.Mathlib.Omega.{arith}
 use borrow.Author.Needs.{needs}
 use borrow.Author.Tests.{not-true, not-false}
-use Rattle.scope.specs.Unpack.{no-room, no-form, unpacked}
-use Rattle.slices.proofs.Laws.{cleared-after, all-kept}
-use Rattle.packing.proofs.Laws.{no-image, not-canonical, copied}
+use Rattle.scope.specs.Operations.Unpack.{no-room, no-form, unpacked}
+use Rattle.buffers.proofs.OneMore.{cleared-after, all-kept}
+use Rattle.packing.proofs.ScratchImage.{no-image, not-canonical, copied}
 use Rattle.packing.proofs.unpack.Statement.{statement}
 use Rattle.packing.proofs.unpack.Tie as tie
 

@@ -5,8 +5,8 @@ use mathlib.Core.Path.{refl}
 use native.Mathlib.Omega.{arith}
 use borrow.Author.Needs.{needs}
 use borrow.Author.Tests.{not-true, not-false}
-use Rattle.forms.specs.Form.{countOf, closedOf, Fields}
-use Rattle.entries.proofs.Press.{presses-size, refused}
+use Rattle.entry_form.specs.EntryForm.{countOf, closedOf, Fields}
+use Rattle.desk_rules.proofs.Press.{presses-size, refused}
 use Rattle.pressing.proofs.Lent.{refused-filled, refused-empty, presses-all}
 use Rattle.pressing.proofs.press_lent.Statement.{statement}
 use Rattle.pressing.proofs.press_lent.Tie as tie

@@ -6,7 +6,7 @@ use lib.ListN.{length}
 use borrow.Author.Needs.{needs}
 use Rattle.scope.specs.Lines.{Side, Outcome}
 use Rattle.put_lines.specs.Printing.{sideOf, outcome, told}
-use Rattle.pieces.proofs.Appending.{appended-as, appended-join}
+use Rattle.line_pieces.proofs.Appending.{appended-as, appended-join}
 use Rattle.put_lines.proofs.Lining.{printed-left, printed-right, printed-both, told-short, outcome-short}
 use Rattle.put_lines.proofs.print_lines.Statement.{statement}
 use Rattle.put_lines.proofs.print_lines.Tie as tie

@@ -1,7 +1,7 @@
 -- Five pieces, one behind the other.
 use native.Mathlib.Omega.{arith}
 use lib.ListN.{length-append}
-use Rattle.pieces.proofs.Appending.{appended-join}
+use Rattle.line_pieces.proofs.Appending.{appended-join}
 use borrow.Author.Needs.{needs}
 use Rattle.put_lines.proofs.put_counts.Statement.{statement}
 use Rattle.put_lines.proofs.put_counts.Tie as tie

@@ -5,7 +5,7 @@ use lib.ListN.{length, length-append}
 use borrow.Author.Needs.{needs}
 use Rattle.scope.specs.Lines.{Outcome}
 use Rattle.put_lines.specs.Printing.{outcome}
-use Rattle.pieces.proofs.Appending.{appended-as, appended-join}
+use Rattle.line_pieces.proofs.Appending.{appended-as, appended-join}
 use Rattle.put_lines.proofs.Lining.{outcome-same, outcome-apart}
 use Rattle.put_lines.proofs.put_outcome.Statement.{statement}
 use Rattle.put_lines.proofs.put_outcome.Tie as tie

@@ -5,7 +5,7 @@ use lib.ListN.{length, length-append}
 use borrow.Author.Needs.{needs}
 use Rattle.scope.specs.Lines.{Side}
 use Rattle.put_lines.specs.Printing.{sideOf, told}
-use Rattle.pieces.proofs.Appending.{appended-as, appended-join, room-behind}
+use Rattle.line_pieces.proofs.Appending.{appended-as, appended-join, room-behind}
 use Rattle.put_lines.proofs.Lining.{told-done, told-refused}
 use Rattle.put_lines.proofs.put_side.Statement.{statement}
 use Rattle.put_lines.proofs.put_side.Tie as tie

@@ -3,13 +3,13 @@ use Prim.Native.Nat.{_+_, _-_, _<_}
 use native.Mathlib.Omega.{arith}
 use borrow.Author.Needs.{needs}
 use lib.Count.{trailingZeros}
-use Rattle.sets.specs.Value.{value}
+use Rattle.sets.specs.Value.{setValue}
 use Rattle.reach.proofs.Passing.{Passing, passing-none, passing-in, passing-more, passing-end}
 use Rattle.reach.proofs.follows_word.Statement.{statement}
 use Rattle.reach.proofs.follows_word.Tie as tie
 
 abbrev Inv-loop : tie.InvT-loop
-Inv-loop words w x union₀ rest₀ at₀ union rest at = Passing words w x (value (union₀ .words)) rest (value (union .words)) at
+Inv-loop words w x union₀ rest₀ at₀ union rest at = Passing words w x (setValue (union₀ .words)) rest (setValue (union .words)) at
 
 abbrev μ-loop : tie.MeasureT-loop
 μ-loop words w x union₀ rest₀ at₀ union rest at = 64 - at

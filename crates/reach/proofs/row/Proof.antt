@@ -3,7 +3,7 @@ use Prim.Native.Nat.{_-_}
 use mathlib.Core.Logic.{⊎-elim}
 use native.Mathlib.Omega.{arith}
 use borrow.Author.Needs.{needs}
-use Rattle.sets.specs.Value.{value}
+use Rattle.sets.specs.Value.{setValue}
 use Rattle.seats.specs.Seats.{Guesses}
 use Rattle.reach.proofs.Cells.{row-fits, Filling, filling-none, filling-full, filling-old, filling-new, filling-end}
 use Rattle.reach.proofs.row.Statement.{statement}
@@ -11,7 +11,7 @@ use Rattle.reach.proofs.row.Tie as tie
 
 abbrev Inv-loop : tie.InvT-loop
 Inv-loop image₀ words₀ guesses₀ masks k q n union at m₀ c₀ image words guesses m c =
-    Filling image₀ words₀ masks k q n (value (union .words)) image words m c × Guesses words guesses m
+    Filling image₀ words₀ masks k q n (setValue (union .words)) image words m c × Guesses words guesses m
 
 abbrev μ-loop : tie.MeasureT-loop
 μ-loop image₀ words₀ guesses₀ masks k q n union at m₀ c₀ image words guesses m c = k - c

@@ -1,15 +1,15 @@
--- The invariant: the rows below q are filled, and lead to sets among the n reached ones (`Filled`). The measure is how many rows there is room for.
+-- The invariant: the rows below q are filled, and lead to sets among the n reached ones (`RowsFilled`). The measure is how many rows there is room for.
 use Prim.Native.Nat.{_-_}
 use borrow.Author.Needs.{needs}
 use Rattle.scope.specs.Limits.{stateLimit}
 use Rattle.seats.specs.Seats.{Guesses}
-use Rattle.reach.proofs.Filled.{Filled, filled-none, filled-next, filled-many, filled-end}
+use Rattle.reach.proofs.RowsFilled.{RowsFilled, filled-none, filled-next, filled-many, filled-end}
 use Rattle.seats.proofs.Seats.{guesses-first}
 use Rattle.reach.proofs.rows.Statement.{statement}
 use Rattle.reach.proofs.rows.Tie as tie
 
 abbrev Inv-loop : tie.InvT-loop
-Inv-loop image₀ words₀ masks k guesses₀ n₀ q₀ image words guesses n q = Filled image₀ words₀ masks k image words n q × Guesses words guesses n
+Inv-loop image₀ words₀ masks k guesses₀ n₀ q₀ image words guesses n q = RowsFilled image₀ words₀ masks k image words n q × Guesses words guesses n
 
 abbrev μ-loop : tie.MeasureT-loop
 μ-loop image₀ words₀ masks k guesses₀ n₀ q₀ image words guesses n q = stateLimit - q

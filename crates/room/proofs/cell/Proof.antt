@@ -1,7 +1,7 @@
 -- The cell is in the room, and holds a state.
 use native.Mathlib.Omega.{arith}
 use borrow.Author.Needs.{needs}
-use Rattle.room.proofs.Laws.{CellAt, cell-at}
+use Rattle.room.proofs.HeadAndParts.{CellAt, cell-at}
 use Rattle.room.proofs.cell.Statement.{statement}
 use Rattle.room.proofs.cell.Tie as tie
 use Rattle.room.proofs.cell.Reads as reads

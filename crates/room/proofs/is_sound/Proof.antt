@@ -3,16 +3,16 @@ use mathlib.Core.Logic.{⊎-elim}
 use native.Mathlib.Nat.{mul-le-mul}
 use native.Mathlib.Omega.{arith}
 use borrow.Author.Needs.{needs}
-use Rattle.slices.proofs.Laws.{fails, and-true, and-false}
-use Rattle.slices.specs.Parts.{Decides}
-use Rattle.room.proofs.Laws.{Judged, sound-last, sound-not}
+use Rattle.buffers.proofs.OneMore.{fails, and-true, and-false}
+use Rattle.buffers.specs.Stored.{Decides}
+use Rattle.room.proofs.HeadAndParts.{PartsBelow, sound-last, sound-not}
 use Rattle.room.proofs.is_sound.Statement.{statement}
 use Rattle.room.proofs.is_sound.Tie as tie
 use Rattle.room.proofs.is_sound.Reads as reads
 use Rattle.room.proofs.is_sound.Lts as lts
 use Rattle.room.proofs.head.Reads as head-reads
 use Rattle.room.proofs.are_below.Reads as below-reads
-use Rattle.slices.proofs.are_zero.Reads as zero-reads
+use Rattle.buffers.proofs.are_zero.Reads as zero-reads
 
 returns : tie.Need-returns
 returns c = fails (λ s. omega (arith, s .long))
@@ -64,13 +64,13 @@ are-zero-requires c κs =
 judged :
     (d : lts.Joined8 (head-reads.Asked, head-reads.Learnt, below-reads.Asked, below-reads.Learnt, zero-reads.Asked, zero-reads.Learnt) reads.Pre reads.Post)
     → (let h = d .before .before .before .before .before .before .before .before in
-    Decides (d .if8 .if9) (Judged (h .before .before .before .args .room .now) (h .head .result .states) (h .head .result .classes)))
+    Decides (d .if8 .if9) (PartsBelow (h .before .before .before .args .room .now) (h .head .result .states) (h .head .result .classes)))
 judged d =
     let h = d .before .before .before .before .before .before .before .before in
     let one = d .before .before .before .are-below .ensures in
     let two = ⊎-elim (λ w. and-true one (w .0 .taken) (w .1 .ensures) (w .2)) (λ w. and-false one (w .0 .left) (w .1)) (d .before .before .if6 .came) in
     let three = ⊎-elim (λ w. and-true two (w .0 .taken) (w .1 .ensures) (w .2)) (λ w. and-false two (w .0 .left) (w .1)) (d .before .if7 .came) in
-    ⊎-elim {C = Decides (d .if8 .if9) (Judged (h .before .before .before .args .room .now) (h .head .result .states) (h .head .result .classes))}
+    ⊎-elim {C = Decides (d .if8 .if9) (PartsBelow (h .before .before .before .args .room .now) (h .head .result .states) (h .head .result .classes))}
     (λ w. and-true three (w .0 .taken) (w .1 .ensures) (w .2)) (λ w. and-false three (w .0 .left) (w .1)) (d .if8 .came)
 
 returns-6 : tie.Need-returns-6

@@ -2,7 +2,7 @@
 use Prim.Native.Nat.{_+_}
 use borrow.Author.Needs.{needs}
 use Rattle.scope.specs.Limits.{classesAt}
-use Rattle.scope.specs.Room.{nextOf}
+use Rattle.scope.specs.Machines.Room.{nextOf}
 use Rattle.room.proofs.step.Statement.{statement}
 use Rattle.room.proofs.step.Tie as tie
 

@@ -1,6 +1,6 @@
 -- The two bytes are the head's.
 use borrow.Author.Needs.{needs}
-use Rattle.room.proofs.Laws.{head-set}
+use Rattle.room.proofs.HeadAndParts.{head-set}
 use Rattle.room.proofs.write_head.Statement.{statement}
 use Rattle.room.proofs.write_head.Tie as tie
 

@@ -5,10 +5,10 @@ use Prim.Native.Nat.{_+_, _-_, _≤_, _<_}
 use native.Mathlib.Omega.{arith}
 use borrow.Author.Needs.{needs}
 use lib.ListN.{getD}
-use Rattle.sides.specs.Side.{bothLimit, both}
+use Rattle.two_rooms.specs.Side.{bothLimit, both}
 use Rattle.round.proofs.Passes.{passed-none, passed-stays, passed-joined, passed-opened}
-use Rattle.agree.proofs.Links.{place-still}
-use Rattle.agree.proofs.Rows.{rows-less}
+use Rattle.parting.proofs.Links.{place-still}
+use Rattle.parting.proofs.CellRows.{rows-less}
 use Rattle.signs.proofs.Signs.{signs-none, stayed-none, stayed-still, stayed-moved, seen-none, seen-all, seen-past}
 use Rattle.round.proofs.Gaps.{Come, come-as, come-gap}
 use Rattle.round.proofs.round.Statement.{statement}

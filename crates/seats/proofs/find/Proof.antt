@@ -5,14 +5,14 @@ use native.Mathlib.Omega.{arith}
 use borrow.Author.Count.{below-more}
 use borrow.Author.Needs.{needs}
 use borrow.Author.Tests.{eqb-true, eqb-false}
-use Rattle.slices.proofs.Numbered.{found-here, found-none}
-use Rattle.sets.specs.Value.{value}
+use Rattle.buffers.proofs.Numbered.{found-here, found-none}
+use Rattle.sets.specs.Value.{setValue}
 use Rattle.seats.specs.Seats.{Is}
 use Rattle.seats.proofs.find.Statement.{statement}
 use Rattle.seats.proofs.find.Tie as tie
 
 abbrev Inv-loop : tie.InvT-loop
-Inv-loop words n s i₀ i = (i ≤ n) × ((j : ℕ) → j < i → Is words (value (s .words)) j → ⊥)
+Inv-loop words n s i₀ i = (i ≤ n) × ((j : ℕ) → j < i → Is words (setValue (s .words)) j → ⊥)
 
 abbrev μ-loop : tie.MeasureT-loop
 μ-loop words n s i₀ i = n - i

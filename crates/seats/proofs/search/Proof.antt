@@ -1,6 +1,6 @@
 -- Where there is no guess, no set is s.
 use borrow.Author.Needs.{needs}
-use Rattle.slices.proofs.Numbered.{found-none}
+use Rattle.buffers.proofs.Numbered.{found-none}
 use Rattle.seats.proofs.search.Statement.{statement}
 use Rattle.seats.proofs.search.Tie as tie
 

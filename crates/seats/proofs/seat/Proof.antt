@@ -1,16 +1,16 @@
 -- A set that was guessed or is found, or has no room, changes nothing; one that is new is stored at the end.
 use native.Mathlib.Omega.{arith}
 use borrow.Author.Needs.{needs}
-use Rattle.sets.specs.Value.{value}
+use Rattle.sets.specs.Value.{setValue}
 use Rattle.seats.proofs.Seats.{seated-guess, seated-none, seated-new, remainder-in, guess-none, guessed-there, guessed-none, guessed-new}
 use Rattle.seats.proofs.seat.Statement.{statement}
 use Rattle.seats.proofs.seat.Tie as tie
 
 slice-read-guess : tie.Need-slice-read-guess
-slice-read-guess c = omega (arith, c .before .remainder .ensures, remainder-in (value (c .before .before .before .before .args .s .words)), c .before .before .before .before .pre .2 .long)
+slice-read-guess c = omega (arith, c .before .remainder .ensures, remainder-in (setValue (c .before .before .before .before .args .s .words)), c .before .before .before .before .pre .2 .long)
 
 mul-guess : tie.Need-mul-guess
-mul-guess c = omega (arith, c .remainder .ensures, remainder-in (value (c .before .before .before .args .s .words)))
+mul-guess c = omega (arith, c .remainder .ensures, remainder-in (setValue (c .before .before .before .args .s .words)))
 
 cast-is-at : tie.Need-cast-is-at
 cast-is-at c = omega (arith, c .before .slice-known3 .given (c .before .before .remainder .result))
@@ -29,10 +29,10 @@ cast-guesses : tie.Need-cast-guesses
 cast-guesses c = omega (arith, c .search .ensures .most, c .before .before .before .before .before .before .before .before .before .pre .0)
 
 mul-guesses : tie.Need-mul-guesses
-mul-guesses c = omega (arith, c .before .before .before .before .before .before .remainder .ensures, remainder-in (value (c .before .before .before .before .before .before .before .before .before .args .s .words)))
+mul-guesses c = omega (arith, c .before .before .before .before .before .before .remainder .ensures, remainder-in (setValue (c .before .before .before .before .before .before .before .before .before .args .s .words)))
 
 slice-write-guesses : tie.Need-slice-write-guesses
-slice-write-guesses c = omega (arith, c .before .before .before .before .before .before .remainder .ensures, remainder-in (value (c .before .before .before .before .before .before .before .before .before .args .s .words)), c .before .before .before .before .before .before .before .before .before .pre .2 .long)
+slice-write-guesses c = omega (arith, c .before .before .before .before .before .before .remainder .ensures, remainder-in (setValue (c .before .before .before .before .before .before .before .before .before .args .s .words)), c .before .before .before .before .before .before .before .before .before .pre .2 .long)
 
 returns-2 : tie.Need-returns-2
 returns-2 c = let d = c .before .before .before .before .before .before .before .before .before .before .before .before .before .before .before .pre in

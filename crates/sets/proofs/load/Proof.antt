@@ -5,8 +5,8 @@ use native.Mathlib.Omega.{arith}
 use borrow.Author.Needs.{needs}
 use lib.ListN.{length, getD, replicate}
 use Rattle.scope.specs.Limits.{setWords}
-use Rattle.scope.specs.Buffers.{Written}
-use Rattle.slices.proofs.Laws.{written-start, written-more}
+use Rattle.scope.specs.Operations.Buffers.{Written}
+use Rattle.buffers.proofs.OneMore.{written-start, written-more}
 use Rattle.sets.proofs.Words.{value-load}
 use Rattle.sets.proofs.load.Statement.{statement}
 use Rattle.sets.proofs.load.Tie as tie

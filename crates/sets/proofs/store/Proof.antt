@@ -5,8 +5,8 @@ use native.Mathlib.Omega.{arith}
 use borrow.Author.Needs.{needs}
 use lib.ListN.{length, getD}
 use Rattle.scope.specs.Limits.{setWords}
-use Rattle.slices.specs.Parts.{Stored}
-use Rattle.slices.proofs.Laws.{stored-from, stored-next}
+use Rattle.buffers.specs.Stored.{Stored}
+use Rattle.buffers.proofs.OneMore.{stored-from, stored-next}
 use Rattle.sets.proofs.Words.{put}
 use Rattle.sets.proofs.store.Statement.{statement}
 use Rattle.sets.proofs.store.Tie as tie

@@ -5,16 +5,16 @@ use Prim.Native.Nat.{_≤_, _<_, _-_}
 use native.Mathlib.Omega.{arith}
 use borrow.Author.Needs.{needs}
 use lib.ListN.{replicate}
-use Rattle.scope.proofs.Lists.{zeros}
-use Rattle.sides.specs.Side.{bothLimit, side}
+use Rattle.scope.proofs.Counting.Lists.{zeros}
+use Rattle.two_rooms.specs.Side.{bothLimit, side}
 use Rattle.signs.specs.Signs.{Stayed}
-use Rattle.signs.proofs.Marks.{Begun, begun-none, begun-same, begun-first, begun-other, begun-all}
+use Rattle.signs.proofs.Marks.{MarksNamed, begun-none, begun-same, begun-first, begun-other, begun-all}
 use Rattle.signs.proofs.Signs.{steady-first, stayed-none, stayed-still, stayed-moved}
 use Rattle.signs.proofs.begin.Statement.{statement}
 use Rattle.signs.proofs.begin.Tie as tie
 
 abbrev Inv-loop : tie.InvT-loop
-Inv-loop a b from n part₀ m touched₀ other₀ q₀ part touched other q = (q ≤ n) × Begun a b part other q × Stayed (replicate bothLimit 0) part from q touched
+Inv-loop a b from n part₀ m touched₀ other₀ q₀ part touched other q = (q ≤ n) × MarksNamed a b part other q × Stayed (replicate bothLimit 0) part from q touched
 
 abbrev μ-loop : tie.MeasureT-loop
 μ-loop a b from n part₀ m touched₀ other₀ q₀ part touched other q = n - q

@@ -7,9 +7,9 @@ use native.Mathlib.Nat.{mul-le-mul}
 use native.Mathlib.Omega.{arith}
 use borrow.Author.Needs.{needs}
 use lib.ListN.{length, set, length-set}
-use Rattle.scope.proofs.Room.{flat-in}
-use Rattle.sides.specs.Side.{bothLimit}
-use Rattle.agree.specs.Rows.{rowCells}
+use Rattle.scope.proofs.Machines.Room.{flat-in}
+use Rattle.two_rooms.specs.Side.{bothLimit}
+use Rattle.parting.specs.CellRows.{rowCells}
 use Rattle.signs.proofs.Noting.{Noting, noting-none, noting-set, noting-again, noting-rows, noting-end}
 use Rattle.signs.proofs.note.Statement.{statement}
 use Rattle.signs.proofs.note.Tie as tie

@@ -6,8 +6,8 @@ use native.Mathlib.Nat.{zero-mul, mul-le-mul-right}
 use native.Mathlib.Omega.{arith}
 use borrow.Author.Needs.{needs}
 use lib.ListN.{length}
-use Rattle.sides.specs.Side.{bothLimit, both}
-use Rattle.agree.specs.Rows.{rowCells, Rows}
+use Rattle.two_rooms.specs.Side.{bothLimit, both}
+use Rattle.parting.specs.CellRows.{rowCells, CellRows}
 use Rattle.signs.specs.Signs.{Sources}
 use Rattle.signs.proofs.Noting.{sources-more}
 use Rattle.signs.proofs.note_all.Statement.{statement}
@@ -15,7 +15,7 @@ use Rattle.signs.proofs.note_all.Tie as tie
 
 abbrev Inv-loop : tie.InvT-loop
 Inv-loop a b left right count n few rows₀ from₀ q₀ rows from q =
-    (q ≤ n) × (length rows ≡ rowCells) × (length from ≡ bothLimit) × (few ≡ true → Rows a b left right count rows q) × Sources ((both a b) .next) q from
+    (q ≤ n) × (length rows ≡ rowCells) × (length from ≡ bothLimit) × (few ≡ true → CellRows a b left right count rows q) × Sources ((both a b) .next) q from
 
 abbrev μ-loop : tie.MeasureT-loop
 μ-loop a b left right count n few rows₀ from₀ q₀ rows from q = n - q

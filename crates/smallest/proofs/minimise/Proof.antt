@@ -7,8 +7,8 @@ use borrow.Author.Needs.{needs}
 use borrow.Author.Tests.{not-true, not-false}
 use lib.ListN.{length}
 use Rattle.scope.specs.Limits.{roomBytes}
-use Rattle.scope.specs.Buffers.{Lent}
-use Rattle.scope.specs.Minimise.{MinimiseLent, no-room, no-form, minimised}
+use Rattle.scope.specs.Operations.Buffers.{Lent}
+use Rattle.scope.specs.Operations.Minimise.{MinimiseLent, no-room, no-form, minimised}
 use Rattle.smallest.proofs.minimise.Statement.{statement}
 use Rattle.smallest.proofs.minimise.Tie as tie
 

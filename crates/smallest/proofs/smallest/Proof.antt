@@ -1,6 +1,6 @@
 -- The room that is written has the bytes of the plan.
 use borrow.Author.Needs.{needs}
-use Rattle.writing.proofs.Image.{image-smallest}
+use Rattle.room_writing.proofs.PlanImage.{image-smallest}
 use Rattle.smallest.proofs.smallest.Statement.{statement}
 use Rattle.smallest.proofs.smallest.Tie as tie
 

@@ -3,7 +3,7 @@ use Prim.Native.Nat.{_-_, _≤_}
 use mathlib.Core.Path.{_≡_}
 use native.Mathlib.Omega.{arith}
 use borrow.Author.Needs.{needs}
-use Rattle.scope.proofs.Rounds.{rounds-bound}
+use Rattle.scope.proofs.Machines.Rounds.{rounds-bound}
 use Rattle.spelling.proofs.Climbing.{climbs}
 use Rattle.spelling.specs.Word.{Between}
 use Rattle.spelling.proofs.Halving.{halve-first, halve-low, halve-high}

@@ -4,12 +4,12 @@ use native.Mathlib.Omega.{arith}
 use borrow.Author.Count.{below-none}
 use borrow.Author.Needs.{needs}
 use Rattle.scope.specs.Limits.{byteValues}
-use Rattle.spelling.proofs.Spelling.{Writing, Tried, climb-ready, untried, tried-more, writing-none, writing-more, writing-done}
+use Rattle.spelling.proofs.Spelling.{Writing, KindsTried, climb-ready, untried, tried-more, writing-none, writing-more, writing-done}
 use Rattle.spelling.proofs.spell.Statement.{statement}
 use Rattle.spelling.proofs.spell.Tie as tie
 
 abbrev Inv-loop : tie.InvT-loop
-Inv-loop left right part parent born least long word p q at i₀ y₀ z₀ i y z = Tried left right least (long - (at + 1)) p q i
+Inv-loop left right part parent born least long word p q at i₀ y₀ z₀ i y z = KindsTried left right least (long - (at + 1)) p q i
 
 abbrev μ-loop : tie.MeasureT-loop
 μ-loop left right part parent born least long word p q at i₀ y₀ z₀ i y z = byteValues - i

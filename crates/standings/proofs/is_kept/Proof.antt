@@ -3,20 +3,20 @@ use mathlib.Core.Path.{_≡_}
 use mathlib.Core.Bool.{true}
 use native.Mathlib.Omega.{arith}
 use borrow.Author.Needs.{needs}
-use Rattle.scope.specs.Room.{Sound}
-use Rattle.slices.specs.Parts.{Decides}
-use Rattle.slices.proofs.Laws.{holds, fails}
+use Rattle.scope.specs.Machines.Room.{Sound}
+use Rattle.buffers.specs.Stored.{Decides}
+use Rattle.buffers.proofs.OneMore.{holds, fails}
 use Rattle.standings.specs.declared.Standing.{Standing}
-use Rattle.forms.specs.Form.{textOf}
-use Rattle.forms.specs.Text.{roomOf}
-use Rattle.forms.specs.Test.{Kept}
-use Rattle.standings.proofs.Standings.{stood, Held, text-held, text-lost}
+use Rattle.entry_form.specs.EntryForm.{textOf}
+use Rattle.entry_form.specs.Text.{fieldRoom}
+use Rattle.entry_form.specs.ValidForm.{OpenText}
+use Rattle.standings.proofs.Standings.{stood, StandsHeld, text-held, text-lost}
 use Rattle.standings.proofs.is_kept.Statement.{statement}
 use Rattle.standings.proofs.is_kept.Tie as tie
 
 -- a field that stands in any other way
-held : (c : tie.After-of-text) {s : Standing} → c .of-text .result ≡ s → Held s
-    → let a = c .before .before .before .args in Decides true (Sound (roomOf (a .rooms .now) (a .f)) × Kept (roomOf (a .rooms .now) (a .f)) (textOf (a .form .now) (a .f)))
+held : (c : tie.After-of-text) {s : Standing} → c .of-text .result ≡ s → StandsHeld s
+    → let a = c .before .before .before .args in Decides true (Sound (fieldRoom (a .rooms .now) (a .f)) × OpenText (fieldRoom (a .rooms .now) (a .f)) (textOf (a .form .now) (a .f)))
 held c e h = let p = c .before .before .before .pre in holds (text-held (p .0) (p .1) (λ i. omega (arith, c .before .shared-slice-known2 .given i)) (stood (c .of-text .ensures) e) h)
 
 returns-4 : tie.Need-returns-4

@@ -4,9 +4,9 @@ use mathlib.Core.Path.{refl}
 use native.Mathlib.Omega.{arith}
 use borrow.Author.Needs.{needs}
 use lib.ListN.{length-drop}
-use Rattle.slices.proofs.Laws.{part-all, written-part}
-use Rattle.forms.specs.Form.{textLimit, textsAt}
-use Rattle.standings.proofs.Laws.{joined-copied}
+use Rattle.buffers.proofs.OneMore.{part-all, written-part}
+use Rattle.entry_form.specs.EntryForm.{textLimit, textsAt}
+use Rattle.standings.proofs.JoinedText.{joined-copied}
 use Rattle.standings.proofs.joined.Statement.{statement}
 use Rattle.standings.proofs.joined.Tie as tie
 

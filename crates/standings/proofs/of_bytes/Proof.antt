@@ -2,9 +2,9 @@
 use mathlib.Core.Logic.{inl, inr}
 use native.Mathlib.Omega.{arith}
 use borrow.Author.Needs.{needs}
-use Rattle.scope.proofs.Run.{bytes-known}
+use Rattle.scope.proofs.Machines.Run.{bytes-known}
 use Rattle.standings.specs.Stand.{accepted}
-use Rattle.forms.proofs.Laws.{told}
+use Rattle.entry_form.proofs.FieldTests.{told}
 use Rattle.standings.proofs.Standings.{stands-unfinished, stands-dead, stands-lost, stands-short, stands-unsound}
 use Rattle.standings.proofs.of_bytes.Statement.{statement}
 use Rattle.standings.proofs.of_bytes.Tie as tie

@@ -1,6 +1,6 @@
 -- The parts that are matched are the room and the text of the field.
 use borrow.Author.Needs.{needs}
-use Rattle.forms.proofs.Laws.{room-part, text-part}
+use Rattle.entry_form.proofs.FieldTests.{room-part, text-part}
 use Rattle.standings.proofs.of_text.Statement.{statement}
 use Rattle.standings.proofs.of_text.Tie as tie
 

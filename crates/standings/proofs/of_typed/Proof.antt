@@ -5,10 +5,10 @@ use native.Mathlib.Omega.{arith}
 use borrow.Author.Needs.{needs}
 use lib.ListN.{length, take}
 use lib.Seq.{length-take-le}
-use Rattle.forms.specs.Form.{lengthOf}
+use Rattle.entry_form.specs.EntryForm.{lengthOf}
 use Rattle.standings.proofs.Standings.{inside}
-use Rattle.forms.proofs.Laws.{room-part}
-use Rattle.standings.proofs.Laws.{joined-text}
+use Rattle.entry_form.proofs.FieldTests.{room-part}
+use Rattle.standings.proofs.JoinedText.{joined-text}
 use Rattle.standings.proofs.of_typed.Statement.{statement}
 use Rattle.standings.proofs.of_typed.Tie as tie
 

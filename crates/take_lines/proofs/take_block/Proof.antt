@@ -3,12 +3,12 @@ use borrow.Author.Needs.{needs}
 use Rattle.take_lines.proofs.Blocks.{takes-none, takes-more, takes-rest, takes-whole}
 use Prim.Native.Nat.{_-_, _≤_}
 use lib.ListN.{length, take}
-use Rattle.take_lines.specs.Taking.{Takes}
+use Rattle.take_lines.specs.Taking.{TakesBlock}
 use Rattle.take_lines.proofs.take_block.Statement.{statement}
 use Rattle.take_lines.proofs.take_block.Tie as tie
 
 abbrev Inv-loop : tie.InvT-loop
-Inv-loop block left₀ right₀ so-far₀ i₀ left right so-far i = (i ≤ length block) × Takes (take i block) so-far₀ so-far left₀ left right₀ right
+Inv-loop block left₀ right₀ so-far₀ i₀ left right so-far i = (i ≤ length block) × TakesBlock (take i block) so-far₀ so-far left₀ left right₀ right
 
 abbrev μ-loop : tie.MeasureT-loop
 μ-loop block left₀ right₀ so-far₀ i₀ left right so-far i = length block - i

@@ -3,7 +3,7 @@ use Prim.Native.Nat.{_+_}
 use native.Mathlib.Omega.{arith}
 use borrow.Author.Needs.{needs}
 use borrow.Author.Tests.{not-true, not-false}
-use Rattle.forms.specs.Form.{lengthsAt}
+use Rattle.entry_form.specs.EntryForm.{lengthsAt}
 use Rattle.standings.proofs.Standings.{stood, inside}
 use Rattle.typing.proofs.Keys.{presses-lost, presses-long, types-accepted, types-unfinished, types-dead, types-lost}
 use Rattle.typing.proofs.add.Statement.{statement}

@@ -2,7 +2,7 @@
 use borrow.Author.Needs.{needs}
 use borrow.Author.Tests.{not-true, not-false}
 use Rattle.standings.proofs.Standings.{inside}
-use Rattle.entries.proofs.Press.{presses-size}
+use Rattle.desk_rules.proofs.Press.{presses-size}
 use Rattle.typing.proofs.Keys.{presses-unplain}
 use Rattle.typing.proofs.press_open.Statement.{statement}
 use Rattle.typing.proofs.press_open.Tie as tie

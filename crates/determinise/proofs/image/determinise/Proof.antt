@@ -2,7 +2,7 @@
 use mathlib.Core.Path.{_∙_}
 use native.Mathlib.Omega.{arith}
 use borrow.Author.Needs.{needs}
-use Rattle.reach.proofs.Filled.{filled-few}
+use Rattle.reach.proofs.RowsFilled.{filled-few}
 use Rattle.determinise.proofs.Images.{image-many, image-made}
 use Rattle.determinise.proofs.image.determinise.Statement.{statement}
 use Rattle.determinise.proofs.image.determinise.Tie as tie

@@ -4,16 +4,16 @@ use mathlib.Core.Path.{_≡_, ap, _∙_}
 use native.Mathlib.Omega.{arith}
 use borrow.Author.Needs.{needs}
 use Rattle.scope.specs.Limits.{marksAt}
-use Rattle.slices.specs.Parts.{Stored}
-use Rattle.slices.proofs.Laws.{stored-none, stored-more}
-use Rattle.sets.specs.Value.{value}
-use Rattle.seats.specs.Layout.{setOf}
+use Rattle.buffers.specs.Stored.{Stored}
+use Rattle.buffers.proofs.OneMore.{stored-none, stored-more}
+use Rattle.sets.specs.Value.{setValue}
+use Rattle.seats.specs.SeatLayout.{reachedSet}
 use Rattle.determinise.specs.Image.{markBy}
 use Rattle.determinise.proofs.image.write_marks.Statement.{statement}
 use Rattle.determinise.proofs.image.write_marks.Tie as tie
 
 abbrev Inv-loop : tie.InvT-loop
-Inv-loop image₀ words n finals i₀ image i = (marksAt ≤ i) × (i ≤ marksAt + n) × Stored image₀ image marksAt i (λ j. markBy (value (finals .words)) (setOf words (j - marksAt)))
+Inv-loop image₀ words n finals i₀ image i = (marksAt ≤ i) × (i ≤ marksAt + n) × Stored image₀ image marksAt i (λ j. markBy (setValue (finals .words)) (reachedSet words (j - marksAt)))
 
 abbrev μ-loop : tie.MeasureT-loop
 μ-loop image₀ words n finals i₀ image i = marksAt + n - i
@@ -25,7 +25,7 @@ slice-write-image : tie.Need-slice-write-image Inv-loop μ-loop
 slice-write-image c = omega (arith, c .before .before .before .loop .inv .2 .size)
 
 loop-again : tie.Need-loop-again Inv-loop μ-loop
-loop-again c = (search needs, search needs, stored-more (omega arith) (c .before .before .before .loop .inv .0) (c .mark .ensures ∙ ap (markBy (value (c .before .before .before .before .before .before .args .finals .words))) (c .before .load .ensures)) (c .before .before .before .loop .inv .2))
+loop-again c = (search needs, search needs, stored-more (omega arith) (c .before .before .before .loop .inv .0) (c .mark .ensures ∙ ap (markBy (setValue (c .before .before .before .before .before .before .args .finals .words))) (c .before .load .ensures)) (c .before .before .before .loop .inv .2))
 
 same-length : tie.Need-same-length Inv-loop μ-loop
 same-length c = c .before .loop .inv .2 .size

@@ -6,8 +6,8 @@ use native.Mathlib.Omega.{arith}
 use lib.Dec.{lit<}
 use lib.Pow.{pow-mono, pow-pos, shl-exact}
 use borrow.Author.Needs.{needs}
-use Rattle.scope.specs.Bits.{has}
-use Rattle.leaves.proofs.Held.{has-range}
+use Rattle.scope.specs.Positions.Bits.{has}
+use Rattle.leaves.proofs.MarkedBytes.{has-range}
 use Rattle.leaves.proofs.marks.bits.Statement.{statement}
 use Rattle.leaves.proofs.marks.bits.Tie as tie
 

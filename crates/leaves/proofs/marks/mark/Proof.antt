@@ -5,7 +5,7 @@ use borrow.Author.Needs.{needs}
 use native.Mathlib.Omega.{arith}
 use lib.ListN.{length}
 use Rattle.scope.specs.Bytes.{between}
-use Rattle.leaves.proofs.Held.{Left, left-all, left-more, left-none, mark-range, between-split, between-none}
+use Rattle.leaves.proofs.MarkedBytes.{Left, left-all, left-more, left-none, mark-range, between-split, between-none}
 use Rattle.leaves.proofs.marks.mark.Statement.{statement}
 use Rattle.leaves.proofs.marks.mark.Tie as tie
 

@@ -3,7 +3,7 @@ use mathlib.Core.Path.{sym}
 use native.Mathlib.Omega.{arith}
 use borrow.Author.Needs.{needs}
 use lib.ListN.{List·getD-eq-default}
-use Rattle.scope.proofs.Lists.{any-default}
+use Rattle.scope.proofs.Counting.Lists.{any-default}
 use Rattle.leaves.proofs.text.byte_at.Statement.{statement}
 use Rattle.leaves.proofs.text.byte_at.Tie as tie
 

@@ -1,8 +1,8 @@
 -- The first byte tells an escape from a bare byte.
 use native.Mathlib.Omega.{arith}
 use mathlib.Core.Path.{sym, _∙_}
-use Rattle.scope.specs.Grammar.{escaped}
-use Rattle.leaves.proofs.Grammar.{class-escape, class-bare}
+use Rattle.scope.specs.Text.Grammar.{escaped}
+use Rattle.leaves.proofs.ByteByByte.{class-escape, class-bare}
 use borrow.Author.Needs.{needs}
 use Rattle.leaves.proofs.text.class_byte.Statement.{statement}
 use Rattle.leaves.proofs.text.class_byte.Tie as tie

@@ -2,7 +2,7 @@
 use Prim.Native.Nat.{_<_}
 use native.Mathlib.Omega.{arith}
 use borrow.Author.Needs.{needs}
-use Rattle.leaves.proofs.Grammar.{coded-in, escape-coded, escape-plain}
+use Rattle.leaves.proofs.ByteByByte.{coded-in, escape-coded, escape-plain}
 use Rattle.leaves.proofs.text.escape.Statement.{statement}
 use Rattle.leaves.proofs.text.escape.Tie as tie
 

@@ -4,7 +4,7 @@ use native.Mathlib.Omega.{arith}
 use borrow.Author.Needs.{needs}
 use lib.ListN.{length-drop}
 use Rattle.scope.specs.Limits.{marksAt}
-use Rattle.slices.proofs.Laws.{part-all, written-part}
+use Rattle.buffers.proofs.OneMore.{part-all, written-part}
 use Rattle.live.proofs.Alive.{marks-accepting}
 use Rattle.live.proofs.marks.accepting.Statement.{statement}
 use Rattle.live.proofs.marks.accepting.Tie as tie

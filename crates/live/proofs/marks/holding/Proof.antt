@@ -6,12 +6,12 @@ use native.Mathlib.Omega.{arith}
 use borrow.Author.Needs.{needs}
 use borrow.Author.Tests.{ltb-false}
 use Rattle.scope.specs.Limits.{classesAt, marksAt}
-use Rattle.live.proofs.Listed.{Listed, listed-none, listed-old, listed-new, class-fits, list-fits, listed-holding, listed-full}
+use Rattle.live.proofs.Listed.{LeadsListed, listed-none, listed-old, listed-new, class-fits, list-fits, listed-holding, listed-full}
 use Rattle.live.proofs.marks.holding.Statement.{statement}
 use Rattle.live.proofs.marks.holding.Tie as tie
 
 abbrev Inv-loop : tie.InvT-loop
-Inv-loop room k seen₀ list₀ count₀ i₀ seen list count i = (classesAt ≤ i) × (i ≤ marksAt) × Listed room seen list count i
+Inv-loop room k seen₀ list₀ count₀ i₀ seen list count i = (classesAt ≤ i) × (i ≤ marksAt) × LeadsListed room seen list count i
 
 abbrev μ-loop : tie.MeasureT-loop
 μ-loop room k seen₀ list₀ count₀ i₀ seen list count i = marksAt - i

@@ -5,8 +5,8 @@ use native.Mathlib.Omega.{arith}
 use borrow.Author.Count.{below-none, below-more}
 use borrow.Author.Needs.{needs}
 use lib.ListN.{getD}
-use Rattle.scope.specs.Room.{cellOf}
-use Rattle.slices.proofs.Laws.{holds, fails}
+use Rattle.scope.specs.Machines.Room.{cellOf}
+use Rattle.buffers.proofs.OneMore.{holds, fails}
 use Rattle.live.proofs.Listed.{class-below, leads-by, leads-not}
 use Rattle.live.proofs.marks.leads.Statement.{statement}
 use Rattle.live.proofs.marks.leads.Tie as tie

@@ -1,14 +1,14 @@
--- The states from q on are `Passed`, and q falls.
+-- The states from q on are `SweptDown`, and q falls.
 use Prim.Native.Nat.{_-_}
 use mathlib.Core.Path.{_≡_}
 use native.Mathlib.Omega.{arith}
 use borrow.Author.Needs.{needs}
-use Rattle.live.proofs.Alive.{Passed, passed-none, passed-on, passed-new, passed-all}
+use Rattle.live.proofs.Alive.{SweptDown, passed-none, passed-on, passed-new, passed-all}
 use Rattle.live.proofs.marks.sweep.Statement.{statement}
 use Rattle.live.proofs.marks.sweep.Tie as tie
 
 abbrev Inv-loop : tie.InvT-loop
-Inv-loop room list count marks₀ added₀ q₀ marks added q = Passed room marks₀ marks added q
+Inv-loop room list count marks₀ added₀ q₀ marks added q = SweptDown room marks₀ marks added q
 
 abbrev μ-loop : tie.MeasureT-loop
 μ-loop room list count marks₀ added₀ q₀ marks added q = q

@@ -10,7 +10,7 @@ use Prim.Native.Nat.{ℕ, _+_, _*_, _-_, _<_, _≤_}
 use mathlib.Core.Path.{_≡_, refl, sym, _∙_}
 use native.Mathlib.Omega.{arith}
 use lib.ListN.{length}
-use Rattle.scope.specs.Grammar.{branches, exprs}
+use Rattle.scope.specs.Text.Grammar.{branches, exprs}
 use Rattle.factors.specs.Answer.{Carried}
 use Rattle.pattern.proofs.Tails.{first-branch, first-expr, ready-atom, ready-factor, ready-branch}
 use Rattle.factors.proofs.Carried.{carried-none, carried-more}
@@ -33,10 +33,10 @@ use Rattle.pattern.proofs.readers.factor.Kinds as factor-kinds
 use Rattle.pattern.proofs.readers.+atom+branch+expr+factor.Lts-factor as factor-lts
 use Rattle.factors.proofs.leaf.Reads as leaf-reads
 use Rattle.factors.proofs.stars.Reads as stars-reads
-use Rattle.shapes.proofs.beside.Reads as beside-reads
-use Rattle.shapes.proofs.either.Reads as either-reads
-use Rattle.shapes.proofs.link.Reads as link-reads
-use Rattle.shapes.proofs.moved.Reads as moved-reads
+use Rattle.fragments.proofs.beside.Reads as beside-reads
+use Rattle.fragments.proofs.either.Reads as either-reads
+use Rattle.fragments.proofs.link.Reads as link-reads
+use Rattle.fragments.proofs.moved.Reads as moved-reads
 use Rattle.leaves.proofs.text.byte_at.Reads as byte-at-reads
 use Rattle.pattern.proofs.readers.goes_on.Reads as goes-on-reads
 use Rattle.pattern.proofs.readers.+atom+branch+expr+factor.{statement}

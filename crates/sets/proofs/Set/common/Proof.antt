@@ -6,8 +6,8 @@ use borrow.Author.Needs.{needs}
 use lib.ListN.{length, getD, replicate}
 use lib.Bits.{bitAnd}
 use Rattle.scope.specs.Limits.{setWords}
-use Rattle.scope.specs.Buffers.{Written}
-use Rattle.slices.proofs.Laws.{written-start, written-more}
+use Rattle.scope.specs.Operations.Buffers.{Written}
+use Rattle.buffers.proofs.OneMore.{written-start, written-more}
 use Rattle.sets.proofs.Words.{value-and}
 use Rattle.sets.proofs.Set.common.Statement.{statement}
 use Rattle.sets.proofs.Set.common.Tie as tie

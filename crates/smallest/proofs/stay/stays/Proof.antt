@@ -5,7 +5,7 @@ use borrow.Author.Needs.{needs}
 use borrow.Author.Tests.{not-true, not-false}
 use lib.ListN.{length-drop}
 use Rattle.scope.specs.Limits.{byteValues, classesAt}
-use Rattle.slices.proofs.Laws.{fails, part-all}
+use Rattle.buffers.proofs.OneMore.{fails, part-all}
 use Rattle.smallest.proofs.Stays.{same-part}
 use Rattle.smallest.proofs.stay.stays.Statement.{statement}
 use Rattle.smallest.proofs.stay.stays.Tie as tie

@@ -1,5 +1,0 @@
--- The laws behind agreeing, each file after what it needs.
-pub mod Names
-pub mod Leading
-pub mod Rows
-pub mod Links

@@ -1,4 +1,0 @@
--- What the contracts of agreeing cite.
-pub mod Parts
-pub mod Rows
-pub mod Chain

@@ -1,6 +1,0 @@
--- The laws that the functions' proofs cite, one file a notion.
-pub mod Count
-pub mod Unions
-pub mod Classes
-pub mod Spreading
-pub mod Masking

@@ -1,0 +1,6 @@
+pub mod DeskAnswers
+pub mod Entry
+pub mod Show
+pub mod Key
+pub mod Open
+pub mod Press

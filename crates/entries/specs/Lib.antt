@@ -1,6 +1,0 @@
-pub mod Answers
-pub mod Entry
-pub mod Show
-pub mod Key
-pub mod Open
-pub mod Press

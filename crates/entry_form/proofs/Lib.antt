@@ -1,0 +1,5 @@
+pub mod Dead
+pub mod Texts
+pub mod FormPlaces
+pub mod Testing
+pub mod FieldTests

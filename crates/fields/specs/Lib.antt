@@ -1,2 +1,0 @@
--- The bit fields of a form.
-pub mod Fields

@@ -1,0 +1,119 @@
+-- One law for each way that a byte is taken outside of classes and escapes, and one for each stage. The byte's test, or its value, decides the next state and
+-- the notes at once; x is the record before the byte, y the one after it.
+--   nest-state: a parenthesis opens
+--   begin-..: an atom may begin; await-none, star-taken, bar-taken, close-..: it is awaited or done; atom-else: so it may begin
+--   at-..: by the stage
+use Prim.Native.Nat.{ℕ, zero, suc, _+_, _-_, _<_, _≤_}
+use mathlib.Core.Path.{_≡_, refl, sym, _∙_}
+use mathlib.Core.Bool.{true, false}
+use mathlib.Core.Logic.{_⊎_, inl, inr}
+use native.Mathlib.Omega.{arith}
+use native.Mathlib.Numerals.{add-one}
+use Rattle.scope.specs.Text.Grammar.{literal}
+use Rattle.scope.specs.Text.Modes.{atom, await, back, code, digit, stuck, at, afterAtom, closes}
+use Rattle.judge_state.specs.Reading.{pieceOf, stateOf, standing, ReadAs}
+use Rattle.judge_state.specs.declared.Reading.{Reading}
+use Rattle.judge_state.proofs.Keeps.{kept-since}
+use Rattle.judge_state.proofs.ByteTaken.{unlike, takes-stuck, takes-as, moved, fromAt, beyond-stage}
+use Rattle.judge_inside.specs.Steps.{Begins, Placeless, Advances}
+use Rattle.judge_step.specs.Nests.{Nests}
+
+-- ---- a parenthesis opens
+
+-- one parenthesis more is open
+pub nest-state : (p n : ℕ) → p ≡ 0 → stateOf 0 (pieceOf p) (n + 1) ≡ at (await atom) (suc n)
+nest-state p n e = rw (e, add-one) refl
+
+-- ---- an atom begins
+
+module _ {x y : Reading} (b i : ℕ) (e : x .piece ≡ 0) where
+  -- a byte that stands for itself
+  pub begin-literal : literal b ≡ true → ReadAs b (fromAt i x) y → Begins atom x b i y
+  begin-literal h t = record { state = t .state ∙ rw (e, h) refl; notes = λ _ n k. rw h (rw e at (t .notes refl _ (kept-since k i))) }
+
+  -- `.`
+  pub begin-dot : b ≡ 46 → ReadAs b (fromAt i x) y → Begins atom x b i y
+  unfolding literal
+  begin-dot h t = record { state = t .state ∙ rw (e, h) refl; notes = λ _ n k. rw h (rw e at (t .notes refl _ (kept-since k i))) }
+
+  -- `[`
+  pub begin-class : b ≡ 91 → ReadAs b (fromAt i x) y → y .deep ≡ x .deep → Begins atom x b i (moved 0 1 (y .deep) y)
+  unfolding literal
+  begin-class h t d = record { state = rw (d, h) refl; notes = λ _ n k. rw h (rw e at (t .notes refl _ (kept-since k i))) }
+
+  -- `(`
+  pub begin-group : b ≡ 40 → Nests i (fromAt i x) y → Begins atom x b i y
+  unfolding literal
+  begin-group h t = record { state = t .state ∙ rw h refl; notes = λ _ n k. rw h (t .notes refl _ (kept-since k i)) }
+
+-- a backslash
+pub begin-back : {x : Reading} (b i : ℕ) → x .piece ≡ 0 → b ≡ 92 → Begins atom x b i (moved 2 (x .piece) (x .deep) (fromAt i x))
+unfolding literal
+begin-back b i e h = record { state = rw (e, h) refl; notes = λ _ n k. rw h (kept-since k i) }
+
+-- any other byte
+pub begin-none : {x y : Reading} (b i : ℕ) → literal b ≡ false → (b ≡ 92 → ⊥) → (b ≡ 46 → ⊥) → (b ≡ 91 → ⊥) → (b ≡ 40 → ⊥) → standing y ≡ stuck → Begins atom x b i y
+begin-none b i h f g l m = takes-stuck (rw (h, unlike 92 b f, unlike 46 b g, unlike 91 b l, unlike 40 b m) refl)
+
+-- ---- where an atom is awaited or done
+
+module _ {x y : Reading} (b i : ℕ) (e : x .piece ≡ 0) where
+  -- `*`, `|` and `)` where an atom is awaited
+  pub await-none : x .stage ≡ 0 → (b ≡ 42) ⊎ ((b ≡ 124) ⊎ (b ≡ 41)) → standing y ≡ stuck → Advances x b i y
+  unfolding literal
+  await-none d (inl h) = takes-stuck (rw (d, e, h) refl)
+  await-none d (inr (inl h)) = takes-stuck (rw (d, e, h) refl)
+  await-none d (inr (inr h)) = takes-stuck (rw (d, e, h) refl)
+
+  -- `)` where nothing is open
+  pub close-none : x .stage ≡ 1 → b ≡ 41 → x .deep ≡ 0 → standing y ≡ stuck → Advances x b i y
+  unfolding literal
+  close-none d h z = takes-stuck (rw (d, e, h, z) refl)
+
+  -- any other byte: an atom may begin
+  pub atom-else : x .stage ≤ 1 → (b ≡ 42 → ⊥) → (b ≡ 124 → ⊥) → (b ≡ 41 → ⊥) → Begins atom x b i y → Advances x b i y
+  atom-else d f g h t = go (x .stage) refl d
+    where
+      go : (k : ℕ) → x .stage ≡ k → k ≤ 1 → Advances x b i y
+      go zero c l = takes-as (rw (c, e) refl) (λ n. rw (c, e) refl) t
+      go (suc zero) c l = takes-as (rw (c, e, unlike 42 b f, unlike 124 b g, unlike 41 b h) refl) (λ n. rw (c, e) refl) t
+      go (suc (suc k)) c l = absurd (omega arith)
+
+module _ {x : Reading} (b i : ℕ) (e : x .piece ≡ 0) (d : x .stage ≡ 1) where
+  -- `*`
+  pub star-taken : b ≡ 42 → Advances x b i x
+  unfolding literal
+  star-taken h = record { state = rw (d, e, h) refl; notes = λ _ n k. rw (d, e, h) k }
+
+  -- `|`
+  pub bar-taken : b ≡ 124 → Advances x b i (moved 0 (x .piece) (x .deep) x)
+  unfolding literal
+  bar-taken h = record { state = rw (d, e, h) refl; notes = λ _ n k. rw (d, e, h) k }
+
+  -- `)`
+  pub close-taken : b ≡ 41 → (x .deep ≡ 0 → ⊥) → Advances x b i (moved (x .stage) (x .piece) (x .deep - 1) x)
+  unfolding literal
+  close-taken h f = record { state = rw (d, e, h) (sym (less (x .deep) f)); notes = λ _ n k. rw (d, e, h) k }
+    where
+      less : (n : ℕ) → (n ≡ 0 → ⊥) → closes n ≡ at afterAtom (n - 1)
+      less zero f = absurd (f refl)
+      less (suc n) f = let z : suc n - 1 ≡ n = omega arith in rw z refl
+
+-- ---- by the stage
+
+module _ {x y : Reading} (b i : ℕ) where
+  -- after a backslash
+  pub at-back : x .stage ≡ 2 → Placeless (back (pieceOf (x .piece))) x b y → Advances x b i y
+  at-back c t = takes-as (rw c refl) (λ m. rw c refl) t
+
+  -- after `x`
+  pub at-code : x .stage ≡ 3 → Placeless (code (pieceOf (x .piece))) x b y → Advances x b i y
+  at-code c t = takes-as (rw c refl) (λ m. rw c refl) t
+
+  -- after the first digit
+  pub at-digit : x .stage ≡ 4 → Placeless (digit (pieceOf (x .piece))) x b y → Advances x b i y
+  at-digit c t = takes-as (rw c refl) (λ m. rw c refl) t
+
+-- no byte leads out
+pub at-stuck : {x : Reading} (b i : ℕ) → 4 < x .stage → Advances x b i x
+at-stuck {x} b i h = let e = beyond-stage (x .stage) (pieceOf (x .piece)) (x .deep) h in takes-stuck (rw e refl) e

@@ -1,0 +1,2 @@
+-- The bit fields of a form.
+pub mod PackedFields

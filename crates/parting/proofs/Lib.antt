@@ -1,0 +1,5 @@
+-- The laws behind agreeing, each file after what it needs.
+pub mod Names
+pub mod Leading
+pub mod CellRows
+pub mod Links

@@ -1,3 +1,0 @@
-pub mod Finer
-pub mod Kinded
-pub mod Rows

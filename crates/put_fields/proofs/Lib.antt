@@ -1,4 +1,0 @@
--- Laws that belong to no one function.
-mod Joined
-mod Filled
-mod Parts

@@ -1,2 +1,0 @@
--- A form on its way out.
-pub mod Filled

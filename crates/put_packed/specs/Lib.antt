@@ -1,0 +1,2 @@
+-- A form on its way out.
+pub mod PutBits

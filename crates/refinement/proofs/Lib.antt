@@ -1,0 +1,3 @@
+-- The laws behind the refinement, each file after what it needs.
+pub mod RoundTurns
+pub mod Refined

@@ -1,0 +1,2 @@
+pub mod PlanTable
+pub mod PlanImage

@@ -1,0 +1,10 @@
+-- The contracts determine their results.
+pub mod Answers
+pub mod Buffers
+pub mod Determined
+pub mod Compile
+pub mod Minimise
+pub mod Match
+pub mod Compare
+pub mod Pack
+pub mod Unpack

@@ -1,0 +1,4 @@
+-- The packed form.
+pub mod PackedForm
+pub mod ReadBack
+pub mod Laid

@@ -1,0 +1,5 @@
+-- Glushkov: sets of positions as numbers, paths, reached sets.
+pub mod Bits
+pub mod Moves
+pub mod Glushkov
+pub mod Reached

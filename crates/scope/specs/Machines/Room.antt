@@ -1,0 +1,59 @@
+-- A machine room: a list of bytes, of which the first 8,578 count. "A longer room is allowed; its tail is never touched."
+--   statesOf, classesOf, classOf, markOf, cellOf: its parts
+--   machine m: the machine that a room holds. A step goes by the byte's class: a class that no byte has is never read
+--   Below m from to limit: the bytes from `from` up to `to` are below `limit`
+--   Sound m: the room is sound
+--   SameBytes a b: the first 8,578 bytes of two rooms are equal
+use Prim.Native.Nat.{ℕ, _+_, _*_, _≤_, _<_}
+use mathlib.Core.Path.{_≡_}
+use mathlib.Core.List.{List}
+use lib.Dec.{eqb}
+use lib.ListN.{length, getD}
+use Rattle.scope.specs.Limits.{classLimit, stateLimit, classesAt, marksAt, cellsAt, roomBytes}
+use Rattle.scope.specs.Machines.Machine.{Machine}
+
+-- "number of states n"
+abbrev pub statesOf : List ℕ → ℕ
+statesOf m = getD m 0 0
+
+-- "number of classes k"
+abbrev pub classesOf : List ℕ → ℕ
+classesOf m = getD m 1 0
+
+-- "the class of each of the 256 byte values"
+abbrev pub classOf : List ℕ → ℕ → ℕ
+classOf m b = getD m (classesAt + b) 0
+
+-- "128 accept marks"
+abbrev pub markOf : List ℕ → ℕ → ℕ
+markOf m q = getD m (marksAt + q) 0
+
+-- "the cell for state q and class c is at q·k + c"
+abbrev pub cellOf : List ℕ → ℕ → ℕ → ℕ
+cellOf m q c = getD m (cellsAt + (q * classesOf m + c)) 0
+
+unfoldable pub nextOf : List ℕ → ℕ → ℕ → ℕ
+nextOf m q b = cellOf m q (classOf m b)
+
+abbrev pub machine : List ℕ → Machine
+machine m = record { states = statesOf m; next = nextOf m; accepts = λ q. eqb (markOf m q) 1 }
+
+abbrev pub Below : List ℕ → ℕ → ℕ → ℕ → Type 0
+Below m from to limit = (i : ℕ) → i < to → from ≤ i → getD m i 0 < limit
+
+-- "It is sound if n is 1 to 128, k is 1 to 64, classes are below k, marks are 0 or 1, used cells are below n, and unused marks and cells are 0."
+pub record Sound (m : List ℕ) : Type 0 where
+  pub long : roomBytes ≤ length m
+  pub some-state : 1 ≤ statesOf m
+  pub few-states : statesOf m ≤ stateLimit
+  pub some-class : 1 ≤ classesOf m
+  pub few-classes : classesOf m ≤ classLimit
+  pub classes : Below m classesAt marksAt (classesOf m)
+  pub marks : Below m marksAt (marksAt + statesOf m) 2
+  pub marks-off : Below m (marksAt + statesOf m) cellsAt 1
+  pub cells : Below m cellsAt (cellsAt + statesOf m * classesOf m) (statesOf m)
+  pub cells-off : Below m (cellsAt + statesOf m * classesOf m) roomBytes 1
+
+-- the bytes that count are equal
+abbrev pub SameBytes : List ℕ → List ℕ → Type 0
+SameBytes a b = (i : ℕ) → i < roomBytes → getD a i 0 ≡ getD b i 0

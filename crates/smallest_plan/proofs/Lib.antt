@@ -1,0 +1,3 @@
+pub mod Finer
+pub mod Kinded
+pub mod TableRows

@@ -1,4 +1,0 @@
--- Laws that belong to no one function; callers cite those of Image.
-mod Bytes
-mod Taken
-pub mod Image

@@ -1,2 +1,0 @@
--- What unpacking reads from a form.
-pub mod Image

@@ -1,0 +1,2 @@
+-- What unpacking reads from a form.
+pub mod FormImage
