@@ -1,5 +1,5 @@
 """The rows that tools/witness runs: a list of groups, each a list of pairs of a row of main.rattle and its name. A group needs nothing of another.
-They come from host/agree/rows and from the samples; some patterns and rooms are drawn."""
+They come from host/agree/rows and from what `samples` prints; some patterns and rooms are drawn."""
 
 import random
 import re
@@ -23,6 +23,11 @@ def spelt(field):
         return b""
     field = re.sub(r"%\{(.*?)\^(\d+)\}", lambda m: m[1] * int(m[2]), field)
     return re.sub(rb"%([0-9a-f]{2})", lambda m: bytes([int(m[1], 16)]), field.encode())
+
+
+def folded(text):
+    """The field that spells a text of the samples, which has no %, shorter: what is repeated in it is counted."""
+    return re.sub(r"(.{1,5}?)\1{3,}", lambda m: m[0] if len(m[0]) < 12 else f"%{{{m[1]}^{len(m[0]) // len(m[1])}}}", text) or "%"
 
 
 def named(field):
@@ -66,6 +71,14 @@ class Rows:
                 before, after = line.rstrip("\n").split(" -> ")
                 yield before.split(" "), after
 
+    def samples(self, operation):
+        """The two fields of each question of an operation, but those of rooms with a name, and its answer."""
+        for line in open(f"{self.root}/crates/samples/stdout"):
+            before, after = line.rstrip("\n").split(" -> ")
+            word, given, other, *_ = [*before.split(" "), "", ""]
+            if word == operation and "{" not in given[:1] + other[:1]:
+                yield (folded(given), folded(other)), after
+
     def group(self, rooms=2):
         self.groups.append([(row("z", (rooms + 1) * ROOM), "")])
         return self.groups[-1]
@@ -83,15 +96,12 @@ class Rows:
                 group.append((row(letter, at, value), ""))
 
     def compiling(self):
-        texts = [fields[0] for fields, _ in self.read("patterns")]
-        for fields, after in self.read("patterns"):
-            if after.startswith("taken"):
-                self.lengths[fields[0]] = int(after.split(" ")[3])
-        known = {spelt(text) for text in texts}
-        for line in open(f"{self.root}/crates/samples/stdin"):
-            text = line.rstrip("\n").replace("%", "%25") or "%"
-            if spelt(text) not in known:
-                texts.append(text)
+        texts = []
+        for fields, after in [*self.samples("compile"), *self.read("patterns")]:
+            texts.append(fields[0])
+            if not after.startswith("refused"):
+                n, k, *_ = map(int, re.findall(r"\d+", after))
+                self.lengths[fields[0]] = (1553 + n + 7 * n * k + 7) // 8
         texts.append("[\\x12-\\x20]")
         drawn = [drawn_pattern(3) for _ in range(60)]
         texts += drawn
@@ -137,7 +147,7 @@ class Rows:
 
     def matching(self):
         last = None
-        for (pattern, text), _ in self.read("matches"):
+        for (pattern, text), _ in [*self.samples("match"), *self.read("matches")]:
             if pattern != last:
                 group = self.group()
                 self.rooms(group, [pattern])
@@ -145,7 +155,8 @@ class Rows:
             group.append((row("t", 0, ROOM, text=spelt(text)), f"matching {named(text)} on {named(pattern)}"))
 
     def comparing(self):
-        pairs = [fields[-2:] for name in ("comparisons", "laws") for fields, _ in self.read(name)]
+        pairs = [fields for fields, _ in self.samples("compare")]
+        pairs += [fields[-2:] for name in ("comparisons", "laws") for fields, _ in self.read(name)]
         pairs += [["\\x00|ab", "a"], ["aa*", "aa*b*"]]
         for left, right in pairs + [[drawn_pattern(3), drawn_pattern(3)] for _ in range(30)]:
             group = self.group()

@@ -1,58 +1,153 @@
-// Compiles each line of its standard input, and prints a line for each: how many states and classes its machine has, or the number of the refusal and its place.
+// Answers the questions on its standard input, one a line: prints each, an arrow, and what was answered. A question is an operation and what it is given, between
+// spaces; what is missing is empty.
+//   compile PATTERN: states N classes K, or refused NUMBER at PLACE
+//   table ROOM: the rows of the table, between /, and the states that accept, - if there is none
+//   minimise ROOM: states N classes K
+//   match ROOM TEXT: accepted, unfinished, or dead PLACE
+//   compare ROOM ROOM: same rounds R, or separated WORD rounds R, the word in hex, - if it is empty
+//   pack ROOM: bytes N
+// A room is that of a pattern, or has a name in braces, which begin no pattern (`rooms`). One that is not taken is refused NUMBER.
+mod rooms;
+mod show;
+
+use scope::Compared;
 use scope::Machine;
+use scope::Matched;
+use scope::Packed;
 ghost use Prim.Native.Nat.{_≤_};
 ghost use lib.ListN.{length};
 
-// Writes two numbers, each behind its text, and a line end.
-fn show(before: &[u8], first: u64, between: &[u8], second: u64) {
-    io::write_all(1, before);
-    io::print_decimal(1, first);
-    io::write_all(1, between);
-    io::print_decimal(1, second);
-    io::write_all(1, b"\n");
-}
-
-// Compiles one pattern, and shows what was answered.
-fn compiles(text: &[u8]) {
+// Compiles a pattern.
+fn compiles(pattern: &[u8]) {
     let mut room = [0u8; Machine::ROOM];
     let mut bytes = [7u8; Machine::SCRATCH_BYTES];
     let mut words = [7u64; Machine::SCRATCH_WORDS];
-    let answer = compile::compile(text, &mut room, &mut bytes, &mut words);
+    let answer = compile::compile(pattern, &mut room, &mut bytes, &mut words);
     let number = answer.number();
     if number == 0 {
-        let machine = room::head(&room);
-        show(
-            b"states ",
-            machine.states as u64,
-            b" classes ",
-            machine.classes as u64,
-        );
+        show::sizes(&room);
         return;
     }
-    show(b"refused ", number as u64, b" at ", answer.place() as u64);
+    show::refused(number);
+    show::number(b" at ", answer.place());
 }
 
-// Where the line that begins at `at` ends.
-fn line_end(input: &[u8], at: usize) -> usize
-    requires { ⌜ at ≤ length (now input) ⌝ }
-    ensures { λ r. ⌜ (at ≤ r) × (r ≤ length (now (input .entry))) ⌝ }
-{
-    let mut end = at;
-    while end < input.len() {
-        if input[end] == b'\n' {
-            return end;
-        }
-        end += 1;
+// Minimises a room.
+fn minimises(from: &[u8]) {
+    let mut to = [7u8; Machine::ROOM];
+    let mut bytes = [7u8; Machine::SCRATCH_BYTES];
+    let mut words = [7u64; Machine::SCRATCH_WORDS];
+    let number = smallest::minimise(from, &mut to, &mut bytes, &mut words).number();
+    if number == 0 {
+        show::sizes(&to);
+        return;
     }
-    end
+    show::refused(number);
 }
 
-// Compiles every line.
-fn compile_lines(input: &[u8]) {
+// Matches a text.
+fn matches(room: &[u8], text: &[u8]) {
+    let answer = matching::match_text(room, text);
+    match answer {
+        Matched::Accepted => show::text(b"accepted"),
+        Matched::Dead(place) => show::number(b"dead ", place),
+        Matched::Unfinished => show::text(b"unfinished"),
+        Matched::Room => show::refused(answer.number()),
+        Matched::Form => show::refused(answer.number()),
+    }
+}
+
+// Compares two rooms.
+fn compares(left: &[u8], right: &[u8]) {
+    let mut word = [7u8; Machine::WORD];
+    let mut bytes = [7u8; Machine::SCRATCH_BYTES];
+    let mut words = [7u64; Machine::SCRATCH_WORDS];
+    let answer = compare::compare(left, right, &mut word, &mut bytes, &mut words);
+    match answer {
+        Compared::Same(rounds) => show::number(b"same rounds ", rounds),
+        Compared::Separated(length, rounds) => {
+            show::text(b"separated ");
+            show::word(&word, length);
+            show::number(b" rounds ", rounds);
+        }
+        Compared::Room => show::refused(answer.number()),
+        Compared::Form => show::refused(answer.number()),
+    }
+}
+
+// Packs a room.
+fn packs(room: &[u8]) {
+    let mut form = [7u8; Machine::ROOM];
+    let mut bytes = [7u8; Machine::SCRATCH_BYTES];
+    let mut words = [7u64; Machine::SCRATCH_WORDS];
+    let answer = packing::pack(room, &mut form, &mut bytes, &mut words);
+    match answer {
+        Packed::Done(length) => show::number(b"bytes ", length),
+        Packed::Room => show::refused(answer.number()),
+        Packed::Form => show::refused(answer.number()),
+    }
+}
+
+// Where the word behind the one that ends at `end` begins.
+fn behind(line: &[u8], end: usize) -> usize
+    requires { ⌜ end ≤ length (now line) ⌝ }
+    ensures { λ r. ⌜ (end ≤ r) × (r ≤ length (now (line .entry))) ⌝ }
+{
+    if end < line.len() { end + 1 } else { end }
+}
+
+// Answers an operation on a room, and on what else it is given.
+fn asks(operation: &[u8], given: &[u8], other: &[u8]) {
+    let start: usize = 0;
+    let room = rooms::room_of(given);
+    let long = rooms::length_of(given);
+    if rooms::are_same(operation, b"table") {
+        show::table(&room);
+    }
+    if rooms::are_same(operation, b"minimise") {
+        minimises(&room[start..long]);
+    }
+    if rooms::are_same(operation, b"match") {
+        matches(&room[start..long], other);
+    }
+    if rooms::are_same(operation, b"compare") {
+        let right = rooms::room_of(other);
+        let wide = rooms::length_of(other);
+        compares(&room[start..long], &right[start..wide]);
+    }
+    if rooms::are_same(operation, b"pack") {
+        packs(&room[start..long]);
+    }
+}
+
+// Answers a question.
+fn answers(line: &[u8]) {
+    let start: usize = 0;
+    let end = bytes::scan::find(line, start, line.len(), b' ');
+    let from = behind(line, end);
+    let to = bytes::scan::find(line, from, line.len(), b' ');
+    let rest = behind(line, to);
+    if rooms::are_same(&line[start..end], b"compile") {
+        compiles(&line[from..to]);
+        return;
+    }
+    asks(&line[start..end], &line[from..to], &line[rest..]);
+}
+
+// Prints a question and its answer.
+fn prints(line: &[u8]) {
+    show::text(line);
+    show::text(b" -> ");
+    answers(line);
+    show::text(b"\n");
+}
+
+// Prints every question and its answer.
+fn print_lines(input: &[u8]) {
     let mut at: usize = 0;
     while at < input.len() {
-        let end = line_end(input, at);
-        compiles(&input[at..end]);
+        let end = bytes::scan::find(input, at, input.len(), b'\n');
+        prints(&input[at..end]);
         if end == input.len() {
             return;
         }
@@ -63,5 +158,5 @@ fn compile_lines(input: &[u8]) {
 fn main() {
     let mut input = io::large_buffer();
     let n = io::read_full(0, &mut input);
-    compile_lines(&input[..n]);
+    print_lines(&input[..n]);
 }

@@ -1,6 +1,6 @@
 //! Cases drawn from a seed: case N of a seed is always the same one. Those of the entry desk are numbered by themselves.
 
-use second::draw::{bound_pair, Alphabet, Draw, FORM_DAMAGES, LIMITS, ROOM_DAMAGES};
+use cases::draw::{bound_pair, Alphabet, Draw, FORM_DAMAGES, LIMITS, ROOM_DAMAGES};
 use second::form;
 use second::limits;
 use second::machine::Machine;

@@ -4,16 +4,16 @@ use std::fmt;
 
 use crate::case::{form_length, Case, Operation};
 use crate::run::{both, Outcome};
-use crate::written::{hex, read};
+use crate::written::read;
+use cases::samples::{hex, listed};
 use second::machine::head;
 use second::sets::{Automaton, Set};
 
 mod desk;
 
 /// The files of rows, each with its runner.
-pub const FILES: [File; 11] = [
+pub const FILES: [File; 10] = [
     ("patterns", include_str!("../rows/patterns.txt"), pattern),
-    ("machines", include_str!("../rows/machines.txt"), machine),
     ("matches", include_str!("../rows/matches.txt"), matched),
     (
         "comparisons",
@@ -125,32 +125,6 @@ fn packed(room: &[u8]) -> Result<(usize, usize, usize), String> {
     Ok((states, classes, length))
 }
 
-/// `PATTERN -> ROWS ACCEPTING`: the table's rows between `/`, cells between commas; the accepting states between commas, or `-`.
-fn machine(row: &[&str]) -> Result<(), String> {
-    let room = second::Machine::read(&compiled(row[0])?).ok_or("a room that is not sound")?;
-    let table: Vec<String> = room
-        .cells
-        .chunks(room.classes)
-        .map(|cells| listed(cells.to_vec()))
-        .collect();
-    let accepting = (0..room.states)
-        .filter(|&state| room.marks[state])
-        .collect();
-    expect(
-        format!("{} {}", table.join("/"), listed(accepting)),
-        &row[2..],
-    )
-}
-
-/// Numbers between commas, `-` if there are none.
-fn listed(numbers: Vec<usize>) -> String {
-    let names: Vec<String> = numbers.iter().map(|number| number.to_string()).collect();
-    match &names[..] {
-        [] => "-".to_string(),
-        _ => names.join(","),
-    }
-}
-
 /// `PATTERN TEXT -> accepted`, `dead PLACE` or `unfinished`.
 fn matched(row: &[&str]) -> Result<(), String> {
     let outcome = outcome(Operation::Match, &[&compiled(row[0])?, &bytes(row[1])?])?;
@@ -241,7 +215,7 @@ fn positions(row: &[&str]) -> Result<(), String> {
     let tree = second::text::tree(&bytes(row[0])?).ok_or("not a legal pattern")?;
     let automaton = Automaton::new(&tree);
     let size = tree.positions.len();
-    let set = |set: Set| listed((0..=size).filter(|&at| set.has(at)).collect());
+    let set = |set: Set| listed(&(0..=size).filter(|&at| set.has(at)).collect::<Vec<_>>());
     let follow: Vec<String> = (1..=size).map(|at| set(automaton.follow(at))).collect();
     let null = if automaton.null() { "nullable" } else { "not" };
     let (first, last) = (set(automaton.first()), set(automaton.last()));

@@ -2,8 +2,8 @@
 
 use std::collections::HashSet;
 
+use cases::exhaustive::{patterns, strings};
 use second::desk::{Desk, BACK, ENTER};
-use second::exhaustive::{patterns, strings};
 use second::limits;
 use second::machine::Machine;
 

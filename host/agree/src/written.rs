@@ -61,11 +61,3 @@ pub fn read(field: &str) -> Option<Vec<u8>> {
     bytes.extend_from_slice(rest.as_bytes());
     Some(bytes)
 }
-
-/// Bytes as lower-case hex, `-` if there are none.
-pub fn hex(bytes: &[u8]) -> String {
-    match bytes {
-        [] => "-".to_string(),
-        _ => bytes.iter().map(|byte| format!("{byte:02x}")).collect(),
-    }
-}

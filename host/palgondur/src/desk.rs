@@ -40,6 +40,7 @@ pub struct Desk {
 
 /// Why no form was opened.
 #[derive(Clone, Copy, PartialEq, Eq, Hash, Debug)]
+#[non_exhaustive]
 pub enum OpenRefusal {
     /// So many machines are none, or over [`limits::FIELDS`].
     Fields(usize),
@@ -47,6 +48,7 @@ pub enum OpenRefusal {
 
 /// Why a key was refused.
 #[derive(Clone, Copy, PartialEq, Eq, Hash, Debug)]
+#[non_exhaustive]
 pub enum KeyRefusal {
     /// The open field's machine accepts no text that begins with the field's text and this byte.
     DeadByte,

@@ -11,7 +11,7 @@
 //! let field = Machine::compile("[0-9A-F][0-9A-F]*")?;
 //! assert_eq!(field.matches("4A"), Match::Accepted);
 //! assert_eq!(field.matches(""), Match::Unfinished);
-//! assert_eq!(field.matches("4G7"), Match::Dead(2));
+//! assert!(matches!(field.matches("4G7"), Match::Dead { place: 2, .. }));
 //!
 //! let rewritten = Machine::compile("[0-9A-F]*[0-9A-F]")?;
 //! assert_eq!(field.compare(&rewritten), Comparison::Same { rounds: 1 });

@@ -15,12 +15,16 @@ pub struct Machine {
 
 /// What a match answers.
 #[derive(Clone, Copy, PartialEq, Eq, Hash, Debug)]
+#[non_exhaustive]
 pub enum Match {
     /// The text is accepted.
     Accepted,
-    /// The prefix of this length is the shortest that no continuation would make accepted; 0 if the machine accepts
-    /// nothing.
-    Dead(usize),
+    /// Nothing that begins as the text does is accepted.
+    #[non_exhaustive]
+    Dead {
+        /// The length of the shortest prefix that no continuation would make accepted; 0 if the machine accepts nothing.
+        place: usize,
+    },
     /// The text is not accepted, but some continuation of it is.
     Unfinished,
 }
@@ -134,13 +138,13 @@ impl Machine {
     /// let machine = Machine::compile("(ab*|a)b")?;
     /// assert_eq!(machine.matches("ab"), Match::Accepted);
     /// assert_eq!(machine.matches("a"), Match::Unfinished);
-    /// assert_eq!(machine.matches("ac"), Match::Dead(2));
+    /// assert!(matches!(machine.matches("ac"), Match::Dead { place: 2, .. }));
     /// # Ok::<(), palgondur::Refusal>(())
     /// ```
     pub fn matches(&self, text: impl AsRef<[u8]>) -> Match {
         match raw::match_text(self.room(), text.as_ref()) {
             (0, _) => Match::Accepted,
-            (raw::DEAD, place) => Match::Dead(place),
+            (raw::DEAD, place) => Match::Dead { place },
             (raw::UNFINISHED, _) => Match::Unfinished,
             (number, _) => unreachable!("{number} of a sound room"),
         }

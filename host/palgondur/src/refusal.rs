@@ -5,6 +5,7 @@ use std::fmt;
 
 /// Why an operation refused. A place counts the pattern's bytes from 0.
 #[derive(Clone, Copy, PartialEq, Eq, Hash, Debug)]
+#[non_exhaustive]
 pub enum Refusal {
     /// A room, the scratch or the output is shorter than it must be.
     Room,

@@ -2,7 +2,7 @@
 
 use std::time::Instant;
 
-use second::draw::{Alphabet, Draw, Limit, LIMITS};
+use cases::draw::{Alphabet, Draw, Limit, LIMITS};
 use second::limits;
 
 /// Prints the mean and the greatest time of a call over the inputs.

@@ -19,8 +19,6 @@
 pub mod answer;
 pub mod derive;
 pub mod desk;
-pub mod draw;
-pub mod exhaustive;
 pub mod form;
 pub mod judge;
 pub mod limits;

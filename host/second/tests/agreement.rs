@@ -1,13 +1,12 @@
 //! The parts of the second program against each other: two ways to each answer.
 
+use cases::draw::{bound_pair, Alphabet, Draw, FORM_DAMAGES};
+use cases::exhaustive::{patterns, strings};
 use second::answer::*;
 use second::derive::Language;
-use second::draw::{Alphabet, Draw, Limit, FORM_DAMAGES, LIMITS, ROOM_DAMAGES};
-use second::exhaustive::{patterns, strings};
 use second::judge::{judge, longest_viable, viable};
 use second::machine::Machine;
 use second::pairs::{rounds, separation, Apart};
-use second::sets::Automaton;
 use second::smallest::{joined, numbered, smallest, twice_reversed};
 use second::{canonical, limits, sound};
 
@@ -238,69 +237,17 @@ fn forms_come_back_and_damage_is_seen() {
 }
 
 #[test]
-fn drawn_damage_makes_rooms_unsound() {
-    use second::draw::RoomDamage::{Byte, Classes, States, UnusedCell, UnusedMark};
-    let mut draw = Draw::new(7);
-    for _ in 0..200 {
-        let room = draw.room();
-        assert!(sound(&room));
-        for damage in ROOM_DAMAGES {
-            let other = draw.damaged_room(&room, damage);
-            let may_stay = [Byte, States, Classes, UnusedCell, UnusedMark].contains(&damage);
-            assert!(may_stay || !sound(&other));
-        }
+fn bounds_of_the_word() {
+    for (tail, length) in [(0, 253), (1, 254)] {
+        let (left, right) = bound_pair(tail);
+        let (left, right) = (left.room(), right.room());
+        assert!(second::canonical(&left) && second::canonical(&right));
+        let mut word = vec![7; limits::WORD];
+        let mut bytes = vec![7; limits::SCRATCH_BYTES];
+        let mut words = vec![7; limits::SCRATCH_WORDS];
+        let answer = second::compare(&left, &right, &mut word, &mut bytes, &mut words);
+        assert_eq!(answer, (SEPARATED, length, length));
+        assert!(word[..length].iter().all(|&byte| byte == 0));
+        assert!(word[length..].iter().all(|&byte| byte == 7));
     }
-}
-
-#[test]
-fn limits_are_met_from_both_sides() {
-    let mut draw = Draw::new(8);
-    let mut met = std::collections::HashMap::new();
-    for limit in LIMITS {
-        for _ in 0..60 {
-            let pattern = draw.near(limit);
-            let tree = second::text::tree(&pattern).expect("a legal text");
-            let (size, most) = match limit {
-                Limit::Length => (pattern.len(), limits::PATTERN),
-                Limit::Depth => {
-                    let depths = tree.opens.iter().map(|open| open.1);
-                    (depths.max().unwrap_or(0), limits::DEPTH)
-                }
-                Limit::Positions => (tree.positions.len(), limits::POSITIONS),
-                Limit::Classes => {
-                    let classes = Automaton::new(&tree).pattern_classes().1;
-                    (classes, limits::CLASSES)
-                }
-                Limit::Sets => {
-                    let reached = Automaton::new(&tree).reached(200);
-                    (reached.map_or(0, |(sets, _)| sets.len()), limits::STATES)
-                }
-            };
-            let near = (most - 1..=most + 2).contains(&size);
-            assert!(near, "{}", pattern.escape_ascii());
-            let number = second::machine(&pattern).map_or_else(|refusal| refusal.0, |_| DONE);
-            *met.entry((format!("{limit:?}"), number)).or_insert(0) += 1;
-        }
-    }
-    let rows = [
-        ("Length", LONG),
-        ("Depth", DEPTH),
-        ("Positions", POSITIONS),
-        ("Classes", CLASSES),
-        ("Sets", STATES),
-    ];
-    for (limit, refusal) in rows {
-        for number in [DONE, refusal] {
-            assert!(met.get(&(limit.to_string(), number)) > Some(&10), "{met:?}");
-        }
-    }
-}
-
-#[test]
-fn strings_come_in_order() {
-    let all: Vec<Vec<u8>> = strings(b"ab", 2).collect();
-    let wanted: [&[u8]; 7] = [b"", b"a", b"b", b"aa", b"ab", b"ba", b"bb"];
-    assert_eq!(all, wanted);
-    assert_eq!(patterns(3).count(), 1 + 13 + 13 * 13 + 13 * 13 * 13);
-    assert_eq!(strings(b"", 3).count(), 1);
 }

@@ -1,12 +1,11 @@
 //! The entry desk against its definition: the forms that are taken are those that some keys lead to.
 
-use std::collections::{HashMap, HashSet};
+use std::collections::HashSet;
 
-use second::answer::{CLOSED, DEAD_BYTE, FORM, LENGTH};
+use cases::exhaustive::strings;
+use second::answer::FORM;
 use second::desk::{Desk, BACK, ENTER};
-use second::draw::{Draw, EntryDamage, Typing, ENTRY_DAMAGES};
-use second::exhaustive::strings;
-use second::limits::{ENTRY_FORM, FIELDS, LENGTH_AT, TEXT, TEXT_AT};
+use second::limits::{ENTRY_FORM, LENGTH_AT, TEXT, TEXT_AT};
 
 /// The rooms of patterns, end to end.
 fn rooms(patterns: &[&[u8]]) -> Vec<u8> {
@@ -79,59 +78,5 @@ fn forms_are_taken_exactly_if_keys_lead_to_them() {
         }
         // No form was reached that was not tried.
         assert_eq!(found, reached);
-    }
-}
-
-#[test]
-fn drawn_damage_is_seen() {
-    let mut draw = Draw::new(9);
-    let mut met = HashMap::new();
-    for _ in 0..400 {
-        let machines: Vec<_> = (0..draw.between(1, 4)).map(|_| draw.machine()).collect();
-        let rooms: Vec<u8> = machines.iter().flat_map(|machine| machine.room()).collect();
-        let mut desk = Desk::open(machines.len(), &rooms).expect("sound rooms");
-        let count = draw.below(40);
-        let keys = draw.keys(&mut desk, Typing::Along, count);
-        assert!(keys.len() <= count && taken(&rooms, &desk.form()));
-        // Rooms for as many fields as a form may have, so that no form is refused for its rooms' length.
-        let long = rooms.repeat(FIELDS);
-        for damage in ENTRY_DAMAGES {
-            let form = draw.damaged_entry(&desk.form(), damage);
-            if usize::from(form[0]) <= FIELDS {
-                let stays = taken(&long, &form);
-                *met.entry((format!("{damage:?}"), stays)).or_insert(0) += 1;
-            }
-        }
-    }
-    for damage in ENTRY_DAMAGES {
-        let seen = |stays| {
-            met.get(&(format!("{damage:?}"), stays))
-                .copied()
-                .unwrap_or(0)
-        };
-        assert!(seen(false) > 40, "{met:?}");
-        let always = [EntryDamage::Past, EntryDamage::Later].contains(&damage);
-        assert!(!always || seen(true) == 0, "{met:?}");
-    }
-    for damage in ["Count", "Closed", "Length", "Text", "Exchanged"] {
-        assert!(met.get(&(damage.to_string(), true)) > Some(&10), "{met:?}");
-    }
-}
-
-#[test]
-fn drawn_keys_get_somewhere() {
-    let mut draw = Draw::new(10);
-    let rooms = rooms(&[b"(ab*|a)b", b"a*b*"]);
-    for (typing, number) in [
-        (Typing::Along, CLOSED),
-        (Typing::Long, LENGTH),
-        (Typing::Wild, DEAD_BYTE),
-    ] {
-        let met = (0..100).filter(|_| {
-            let mut desk = Desk::open(2, &rooms).expect("sound rooms");
-            let keys = draw.keys(&mut desk.clone(), typing, 150);
-            keys.into_iter().any(|key| desk.key(key) == number)
-        });
-        assert!(met.count() > 50, "{typing:?}");
     }
 }

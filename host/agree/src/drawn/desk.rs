@@ -1,7 +1,7 @@
 //! The entry desk: forms that are opened and typed key by key, and single calls.
 
+use cases::draw::{Draw, Typing, ENTRY_DAMAGES, ROOM_DAMAGES};
 use second::desk::{Desk, BACK, ENTER};
-use second::draw::{Draw, Typing, ENTRY_DAMAGES, ROOM_DAMAGES};
 use second::limits::{self, FIELDS};
 use second::machine::Machine;
 

@@ -1,9 +1,22 @@
-//! Rows, each with what document 01 says.
+//! Samples and rows, each with what document 01 says.
 
 use agree::rows::{run, FILES};
 use agree::written::{read, written};
+use agree::{both, Case, Operation};
+use cases::samples;
 
 use crate::say;
+
+#[test]
+fn samples_hold() {
+    let run = |operation: &str, reads: &[&[u8]]| {
+        let operation = Operation::named(operation).expect("an operation");
+        let outcome = both(&Case::new(operation, reads));
+        let outcome = outcome.unwrap_or_else(|difference| panic!("{difference}"));
+        (outcome.answer, outcome.output)
+    };
+    samples::hold(|question| samples::answer(question, run));
+}
 
 #[test]
 fn rows_hold() {
@@ -19,7 +32,7 @@ fn rows_hold() {
 
 #[test]
 fn fields_are_read_back() {
-    let mut draw = second::draw::Draw::new(5);
+    let mut draw = cases::draw::Draw::new(5);
     for _ in 0..2000 {
         let length = draw.below(60);
         let alphabet = draw.pick(&[&b"a%^}{ \\"[..], b"\x00a", b"%", b"}^\xff"]);

@@ -3,8 +3,8 @@
 use agree::case::form_length;
 use agree::many::Tally;
 use agree::{both, small, Case, Operation};
+use cases::exhaustive::strings;
 use second::derive::Language;
-use second::exhaustive::strings;
 use second::judge::judge;
 use second::limits;
 

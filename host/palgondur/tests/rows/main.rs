@@ -1,7 +1,8 @@
-//! The library through its types: rows of questions and answers, all run by `agree`.
+//! The library through its types: the samples, and rows of questions and answers that are its own, all run by `agree`.
 
 mod desk;
 
+use cases::samples;
 use palgondur::{limits, Comparison, Form, Machine, Match, Refusal, Scratch};
 use std::fmt::Debug;
 
@@ -24,122 +25,73 @@ fn machine(pattern: &str) -> Machine {
     Machine::compile(pattern).unwrap()
 }
 
-/// The two numbers of a pattern's machine, or its refusal.
-fn compiled(pattern: &str) -> Result<(usize, usize), Refusal> {
-    Machine::compile(pattern).map(|machine| (machine.states(), machine.classes()))
-}
-
-/// `count` different literals, none of them x, y or z.
-fn literals(count: usize) -> String {
-    (' '..='~')
-        .filter(|byte| !"()|*[]{}\\.+?xyz".contains(*byte))
-        .take(count)
-        .collect()
-}
-
 /// A pattern of 99 sets of positions and as many more as it has letters d.
 fn many_sets(letters: usize) -> String {
     let (five, four) = ("(a|b)".repeat(5), "(a|b)".repeat(4));
     format!("(a|b)*a{five}|c(a|b)*a{four}|{}", "d".repeat(letters))
 }
 
-#[test]
-fn patterns_are_compiled_or_refused() {
-    let nested = |depth: usize| format!("{}a{}", "(".repeat(depth), ")".repeat(depth));
-    let rows = [
-        ("(ab*|a)b".to_string(), Ok((4, 3))),
-        ("a*".to_string(), Ok((2, 2))),
-        ("\\0".to_string(), Ok((1, 1))),
-        ("\\e".to_string(), Ok((2, 1))),
-        (".*".to_string(), Ok((1, 1))),
-        ("a".repeat(limits::POSITIONS), Ok((65, 2))),
-        (format!("a{}", "*".repeat(limits::PATTERN - 1)), Ok((2, 2))),
-        (nested(limits::NESTED), Ok((3, 2))),
-        (format!("{}[x-y][y-z]", literals(60)), Ok((64, 64))),
-        (many_sets(29), Ok((127, 5))),
-        ("a".repeat(limits::PATTERN + 1), Err(Refusal::Long)),
-        ("".to_string(), Err(Refusal::Syntax(0))),
-        ("a|".to_string(), Err(Refusal::Syntax(2))),
-        ("(a".to_string(), Err(Refusal::Syntax(2))),
-        ("a)".to_string(), Err(Refusal::Syntax(1))),
-        ("a+".to_string(), Err(Refusal::Syntax(1))),
-        ("\\xG1".to_string(), Err(Refusal::Syntax(2))),
-        ("[]".to_string(), Err(Refusal::Syntax(1))),
-        ("é".to_string(), Err(Refusal::Syntax(0))),
-        ("[b-a]".to_string(), Err(Refusal::Range(2))),
-        ("\\0[b-a]".to_string(), Err(Refusal::Range(4))),
-        (nested(limits::NESTED + 1), Err(Refusal::Depth(32))),
-        (
-            "a".repeat(limits::POSITIONS + 1),
-            Err(Refusal::Positions(63)),
-        ),
-        (format!("{}[x-y][y-z]", literals(61)), Err(Refusal::Classes)),
-        (many_sets(30), Err(Refusal::States)),
-    ];
-    agree(&rows, |pattern| compiled(pattern));
+/// What the types answer to a question of the samples.
+fn asked(question: &samples::Question) -> Result<String, Refusal> {
+    let room = |given| {
+        let compiled = |pattern: &str| machine(pattern).room().to_vec();
+        Machine::from_room(samples::room(given, compiled))
+    };
+    let sizes = |machine: Machine| samples::sizes((machine.states(), machine.classes()));
+    Ok(match question.operation {
+        "compile" => sizes(Machine::compile(question.given)?),
+        "table" => samples::table(room(question.given)?.room()),
+        "minimise" => sizes(room(question.given)?.minimised()),
+        "match" => match room(question.given)?.matches(question.other) {
+            Match::Accepted => "accepted".to_string(),
+            Match::Dead { place, .. } => format!("dead {place}"),
+            Match::Unfinished => "unfinished".to_string(),
+            other => format!("{other:?}"),
+        },
+        "compare" => compared(&room(question.given)?, &room(question.other)?),
+        _ => {
+            let machine = room(question.given)?;
+            let form = machine.pack()?;
+            assert_eq!(form.unpack()?, machine);
+            format!("bytes {}", form.bytes().len())
+        }
+    })
+}
+
+/// The comparison of two machines, either way round, in words.
+fn compared(left: &Machine, right: &Machine) -> String {
+    let answer = left.compare(right);
+    assert_eq!(right.compare(left), answer);
+    match answer {
+        Comparison::Same { rounds } => format!("same rounds {rounds}"),
+        Comparison::Separated { word, rounds } => samples::separated(&word, rounds),
+    }
 }
 
 #[test]
-fn strings_are_matched() {
-    let rows = [
-        (("(ab*|a)b", "ab"), Match::Accepted),
-        (("(ab*|a)b", "abbbb"), Match::Accepted),
-        (("(ab*|a)b", "a"), Match::Unfinished),
-        (("(ab*|a)b", ""), Match::Unfinished),
-        (("(ab*|a)b", "ac"), Match::Dead(2)),
-        (("(ab*|a)b", "acacac"), Match::Dead(2)),
-        (("\\0", ""), Match::Dead(0)),
-        (("\\0", "a"), Match::Dead(0)),
-        (("\\e", ""), Match::Accepted),
-        (("\\e", "a"), Match::Dead(1)),
-        (("..", "é"), Match::Accepted),
-        (("a\\0|b", "a"), Match::Dead(1)),
-    ];
-    agree(&rows, |(pattern, text)| machine(pattern).matches(text));
+fn samples_hold() {
+    samples::hold(|question| {
+        asked(question).unwrap_or_else(|refusal| match question.operation {
+            "compile" => {
+                let (number, place) = (refusal.number(), refusal.place().unwrap_or(0));
+                format!("refused {number} at {place}")
+            }
+            _ => format!("refused {}", refusal.number()),
+        })
+    });
+}
+
+#[test]
+fn bytes_beyond_ascii_are_bytes() {
+    assert_eq!(Machine::compile("é"), Err(Refusal::Syntax(0)));
+    assert_eq!(machine("..").matches("é"), Match::Accepted);
+}
+
+#[test]
+fn long_strings_are_matched() {
     let long = vec![b'a'; 1 << 20];
     assert_eq!(machine("a*").matches(&long), Match::Accepted);
     assert_eq!(machine("a*b").matches(&long), Match::Unfinished);
-}
-
-#[test]
-fn machines_are_compared() {
-    let same = |rounds| Comparison::Same { rounds };
-    let separated = |word: &str, rounds| Comparison::Separated {
-        word: word.as_bytes().to_vec(),
-        rounds,
-    };
-    let rows = [
-        ((".*", "\\0"), separated("", 0)),
-        (("a", "b"), separated("a", 1)),
-        (("a*b*", "(a|b)*"), separated("ba", 2)),
-        (("aaa", "aaaa"), separated("aaa", 4)),
-        (("(a*|b*)*", "(a|b)*"), same(0)),
-        (("a(ba)*", "(ab)*a"), same(1)),
-        (("\\e|aa*", "a*"), same(0)),
-    ];
-    agree(&rows, |(left, right)| {
-        machine(left).compare(&machine(right))
-    });
-    agree(&rows, |(left, right)| {
-        machine(right).compare(&machine(left))
-    });
-}
-
-#[test]
-fn forms_come_back() {
-    let largest = format!("{}[x-y][y-z]", literals(60));
-    let rows = [
-        ("\\0", (196, true)),
-        ("\\e", (197, true)),
-        ("a*", (198, true)),
-        ("([03569ACF][12478BDE]|[12478BDE][03569ACF])", (208, true)),
-        (largest.as_str(), (3_787, true)),
-    ];
-    agree(&rows, |pattern| {
-        let machine = machine(pattern);
-        let form = machine.pack().unwrap();
-        (form.bytes().len(), form.unpack() == Ok(machine))
-    });
 }
 
 #[test]

@@ -1,10 +1,9 @@
 -- A line begins where the input has bytes left, and the next begins further on.
 use Prim.Native.Nat.{_-_, _≤_}
-use native.Mathlib.Omega.{arith}
 use lib.ListN.{length}
 use borrow.Author.Needs.{needs}
-use Rattle.samples.proofs.compile_lines.Statement.{statement}
-use Rattle.samples.proofs.compile_lines.Tie as tie
+use Rattle.samples.proofs.print_lines.Statement.{statement}
+use Rattle.samples.proofs.print_lines.Tie as tie
 
 abbrev Inv-loop : tie.InvT-loop
 Inv-loop input at₀ at = at ≤ length input
@@ -12,8 +11,8 @@ Inv-loop input at₀ at = at ≤ length input
 abbrev μ-loop : tie.MeasureT-loop
 μ-loop input at₀ at = length input - at
 
-pub compile-lines-spec : {M : Type 1} → statement M
-compile-lines-spec =
+pub print-lines-spec : {M : Type 1} → statement M
+print-lines-spec =
     tie.close
     (tie.spec
     Inv-loop

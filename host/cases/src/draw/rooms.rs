@@ -1,9 +1,9 @@
 //! Drawing rooms and forms: sound ones, damaged ones, and a pair at the bound of comparing.
 
 use super::Draw;
-use crate::form;
-use crate::limits::{self, BYTES, CELL_AT, CLASS_AT, MARK_AT, ROOM, STATES};
-use crate::machine::{head, Machine};
+use second::form;
+use second::limits::{self, BYTES, CELL_AT, CLASS_AT, MARK_AT, ROOM, STATES};
+use second::machine::{head, Machine};
 
 /// A kind of damage to a room.
 #[derive(Clone, Copy, PartialEq, Eq, Debug)]

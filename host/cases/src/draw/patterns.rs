@@ -1,8 +1,8 @@
 //! Drawing patterns: legal ones, changed ones, and ones near a limit.
 
 use super::Draw;
-use crate::limits::{self, BYTES, STATES};
-use crate::text::TWELVE;
+use second::limits::{self, BYTES, STATES};
+use second::text::TWELVE;
 
 /// Which bytes patterns are made of.
 #[derive(Clone, Copy, PartialEq, Eq, Debug)]

@@ -1,8 +1,8 @@
 //! Drawing what happens at the entry desk: keys that get somewhere, and forms with damage.
 
 use super::Draw;
-use crate::desk::{Desk, BACK, ENTER};
-use crate::limits::{ENTRY_FORM, FIELDS, LENGTH_AT, TEXT, TEXT_AT};
+use second::desk::{Desk, BACK, ENTER};
+use second::limits::{ENTRY_FORM, FIELDS, LENGTH_AT, TEXT, TEXT_AT};
 
 /// How keys are drawn.
 #[derive(Clone, Copy, PartialEq, Eq, Debug)]

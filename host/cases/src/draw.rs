@@ -2,8 +2,8 @@
 //!
 //! The same seed draws the same things. What is drawn is not judged here: a pattern near a limit may stand on either side of it.
 
-use crate::machine::Machine;
-use crate::matching::live;
+use second::machine::Machine;
+use second::matching::live;
 
 mod desks;
 mod patterns;
