@@ -3,6 +3,7 @@
 --   leaf-empty, leaf-nothing: an atom without a position was read
 --   leaf-some, leaf-room, leaf-single: one with a position can be read; there is room for it; it was read
 use Prim.Native.Nat.{ℕ, _+_, _<_}
+use Prim.Native.Char.{code}
 use mathlib.Core.Path.{_≡_, refl, sym, _∙_}
 use mathlib.Core.Bool.{true, false}
 use mathlib.Core.List.{List}
@@ -10,7 +11,7 @@ use native.Mathlib.Decide.{ℕ-discrete}
 use native.Mathlib.Omega.{arith}
 use Rattle.scope.specs.Bytes.{byte}
 use Rattle.scope.specs.Text.Grammar.{escapable, Single, Level, atoms, Reads, single, no-byte, no-word, in-group}
-use Rattle.scope.specs.Limits.{positionLimit}
+use Rattle.scope.specs.Limits.{byteValues, positionLimit}
 use Rattle.scope.specs.Text.Tree.{Leaf, Tree, nothing, empty, position, setOf, expr}
 use Rattle.scope.proofs.Text.Grammar.{single-on, reads-on, single-back}
 use Rattle.fragments.specs.declared.Fragment.{Fragment}
@@ -32,40 +33,40 @@ answer p f =
 module _ {s : List ℕ} where
   -- ---- outside of parentheses
 
-  is-empty : {i j : ℕ} {t : Tree} → byte s i ≡ 92 → byte s (i + 1) ≡ 101 → Reads s atoms i j t → (i + 2 ≡ j) × (t ≡ empty)
+  is-empty : {i j : ℕ} {t : Tree} → byte s i ≡ code "\\" → byte s (i + 1) ≡ code "e" → Reads s atoms i j t → (i + 2 ≡ j) × (t ≡ empty)
   unfolding escapable
-  is-empty h e (single x) = absurd (single-back x h 101 e refl (λ z. omega arith))
+  is-empty h e (single x) = absurd (single-back x h (code "e") e refl (λ z. omega arith))
   is-empty h e (no-byte h′ k) = (refl, refl)
   is-empty h e (no-word h′ k) = absurd (omega arith)
   is-empty h e (in-group h′ r k) = absurd (omega arith)
 
-  is-nothing : {i j : ℕ} {t : Tree} → byte s i ≡ 92 → byte s (i + 1) ≡ 48 → Reads s atoms i j t → (i + 2 ≡ j) × (t ≡ nothing)
+  is-nothing : {i j : ℕ} {t : Tree} → byte s i ≡ code "\\" → byte s (i + 1) ≡ code "0" → Reads s atoms i j t → (i + 2 ≡ j) × (t ≡ nothing)
   unfolding escapable
-  is-nothing h e (single x) = absurd (single-back x h 48 e refl (λ z. omega arith))
+  is-nothing h e (single x) = absurd (single-back x h (code "0") e refl (λ z. omega arith))
   is-nothing h e (no-byte h′ k) = absurd (omega arith)
   is-nothing h e (no-word h′ k) = (refl, refl)
   is-nothing h e (in-group h′ r k) = absurd (omega arith)
 
-  is-single : {i j b : ℕ} {t : Tree} → (byte s i ≡ 40 → ⊥) → Backslash s i b → (b ≡ 101 → ⊥) → (b ≡ 48 → ⊥) → Reads s atoms i j t → (x : Leaf) × Single s i j x × (t ≡ position i x)
+  is-single : {i j b : ℕ} {t : Tree} → (byte s i ≡ code "(" → ⊥) → Backslash s i b → (b ≡ code "e" → ⊥) → (b ≡ code "0" → ⊥) → Reads s atoms i j t → (x : Leaf) × Single s i j x × (t ≡ position i x)
   is-single n p e z (single x) = (_, x, refl)
   is-single n p e z (no-byte h k) = absurd (e (p .yes h ∙ k))
   is-single n p e z (no-word h k) = absurd (z (p .yes h ∙ k))
   is-single n p e z (in-group h r k) = absurd (n h)
 
   -- a byte after a backslash that is no 256
-  behind : {i b c : ℕ} → Backslash s i b → b ≡ c → (c ≡ 256 → ⊥) → (byte s i ≡ 92) × (byte s (i + 1) ≡ c)
-  behind {i} p e n = elim (ℕ-discrete (byte s i) 92) [ yes h ↦ (h, sym (p .yes h) ∙ e) | no h ↦ absurd (n (sym e ∙ p .no h)) ]
+  behind : {i b c : ℕ} → Backslash s i b → b ≡ c → (c ≡ byteValues → ⊥) → (byte s i ≡ code "\\") × (byte s (i + 1) ≡ c)
+  behind {i} p e n = elim (ℕ-discrete (byte s i) (code "\\")) [ yes h ↦ (h, sym (p .yes h) ∙ e) | no h ↦ absurd (n (sym e ∙ p .no h)) ]
 
   module _ {i k b : ℕ} (p : Readable atoms k s i) (q : Backslash s i b) where
-    pub leaf-empty : {y : List ℕ} {g : Fragment} → b ≡ 101 → Blank (i + 2) k true g → (w : List ℕ) → Answer atoms s i k y y w w g
+    pub leaf-empty : {y : List ℕ} {g : Fragment} → b ≡ code "e" → Blank (i + 2) k true g → (w : List ℕ) → Answer atoms s i k y y w w g
     unfolding expr
     leaf-empty e m w = answer p (λ j t r. let (h, d) = behind q e (λ z. omega arith) in let (o, u) = is-empty h d (r .0) in record { next = m .nexts ∙ o; right = rw u (right-empty m) })
 
-    pub leaf-nothing : {y : List ℕ} {g : Fragment} → b ≡ 48 → Blank (i + 2) k false g → (w : List ℕ) → Answer atoms s i k y y w w g
+    pub leaf-nothing : {y : List ℕ} {g : Fragment} → b ≡ code "0" → Blank (i + 2) k false g → (w : List ℕ) → Answer atoms s i k y y w w g
     unfolding expr
     leaf-nothing e m w = answer p (λ j t r. let (h, d) = behind q e (λ z. omega arith) in let (o, u) = is-nothing h d (r .0) in record { next = m .nexts ∙ o; right = rw u (right-nothing m) })
 
-    module _ (n : byte s i ≡ 40 → ⊥) (e : b ≡ 101 → ⊥) (z : b ≡ 48 → ⊥) where
+    module _ (n : byte s i ≡ code "(" → ⊥) (e : b ≡ code "e" → ⊥) (z : b ≡ code "0" → ⊥) where
       pub leaf-some : Some Single s i
       leaf-some = let (x, r, d) = is-single n q e z (p .whole .0) in some Single (p .short) r (single-on r) (single-in r)
 

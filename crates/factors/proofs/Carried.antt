@@ -3,6 +3,7 @@
 --   star-last: a tail that does not go on is over
 --   star-fit, star-turn: one more star
 use Prim.Native.Nat.{ℕ, _+_, _<_}
+use Prim.Native.Char.{code}
 use mathlib.Core.Path.{_≡_, refl, sym, _∙_}
 use mathlib.Core.Bool.{true}
 use mathlib.Core.List.{List}
@@ -27,7 +28,7 @@ carried-more a b = record { says = λ k y₀ w₀ u j e q. b .says k y₀ w₀ u
 -- ---- stars
 
 module _ {s : List ℕ} where
-  star-next : {n j : ℕ} {t u : Tree} → Tail s factors t n u j → EndsLevel factors (byte s j) → byte s n ≡ 42 → Tail s factors (starred t) (n + 1) u j
+  star-next : {n j : ℕ} {t u : Tree} → Tail s factors t n u j → EndsLevel factors (byte s j) → byte s n ≡ code "*" → Tail s factors (starred t) (n + 1) u j
   star-next done e h = absurd (e h)
   star-next (a-star g r) e h = r
 
@@ -38,6 +39,6 @@ module _ {s : List ℕ} where
   pub star-fit : {w w′ : List ℕ} {g r : Fragment} → Fit s w g → g .next < length s → length w′ ≡ length w → Moved g (g .next + 1) true r → Fit s w′ r
   star-fit f i e m = record { short = f .short; inside = omega (arith, m .nexts); words = omega (arith, f .words); few = omega (arith, f .few, m .counts); within = λ q k. rw (m .lasts) (f .within q (omega (arith, m .counts))) }
 
-  pub star-turn : {b : ℕ} {w w′ : List ℕ} {g r : Fragment} → b ≡ byte s (g .next) → b ≡ 42 → Linked (setValue (g .last .words)) (setValue (g .first .words)) w w′ → Moved g (g .next + 1) true r → (y : List ℕ) → Carried factors s y w g y w′ r
+  pub star-turn : {b : ℕ} {w w′ : List ℕ} {g r : Fragment} → b ≡ byte s (g .next) → b ≡ code "*" → Linked (setValue (g .last .words)) (setValue (g .first .words)) w w′ → Moved g (g .next + 1) true r → (y : List ℕ) → Carried factors s y w g y w′ r
   unfolding expr
   star-turn p h l m y = record { says = λ k y₀ w₀ u j e q. record { tree = starred (q .tree); right = right-star (q .right) l m; tail = rw (m .nexts) (star-next (q .tail) e (sym p ∙ h)) } }

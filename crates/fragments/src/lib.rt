@@ -1,6 +1,6 @@
 // The sets of a part of a pattern, made of those of its parts.
 ghost use mathlib.Core.Path.{_≡_};
-ghost use mathlib.Core.Bool.{_&&_, false, _||_};
+ghost use mathlib.Core.Bool.{false};
 ghost use Prim.Native.Nat.{ℕ, _+_, _<_, _≤_};
 ghost use lib.ListN.{length};
 ghost use Rattle.scope.specs.Positions.Bits.{has, given};
@@ -17,20 +17,6 @@ pub struct Fragment {
     pub null: bool,
     pub first: Set,
     pub last: Set,
-}
-
-// Both.
-fn both(a: bool, b: bool) -> bool
-    ensures { λ r. ⌜ r ≡ (a && b) ⌝ }
-{
-    if a { b } else { false }
-}
-
-// One or the other.
-fn any(a: bool, b: bool) -> bool
-    ensures { λ r. ⌜ r ≡ (a || b) ⌝ }
-{
-    if a { true } else { b }
 }
 
 // The set s if it is wanted, else the empty set.
@@ -78,7 +64,7 @@ pub fn beside(a: Fragment, b: Fragment) -> Fragment
     Fragment {
         next: b.next,
         count: b.count,
-        null: both(a.null, b.null),
+        null: a.null & b.null,
         first,
         last,
     }
@@ -93,7 +79,7 @@ pub fn either(a: Fragment, b: Fragment) -> Fragment
     Fragment {
         next: b.next,
         count: b.count,
-        null: any(a.null, b.null),
+        null: a.null | b.null,
         first,
         last,
     }

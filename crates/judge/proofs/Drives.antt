@@ -4,6 +4,7 @@
 --   notesTo s i: what is noted after the first i bytes of s
 --   NotedAll, legal-notes: what is noted at the end of a legal text
 use Prim.Native.Nat.{ℕ, zero, suc, _+_, _*_, _<_}
+use Prim.Native.Char.{code}
 use mathlib.Core.Path.{_≡_, refl, _∙_}
 use mathlib.Core.List.{List, [], _∷_, _++_, append-assoc, append-nil}
 use native.Mathlib.Numerals.{add-one}
@@ -16,7 +17,8 @@ use Rattle.scope.specs.Text.Tree.{Item, lone, range, Leaf, Tree, onlyIf, fallin
 use Rattle.scope.specs.Text.Grammar.{literal, escapable, classLiteral, hex, Escape, plain, coded, ClassByte, bare, escaped, OneItem, one-byte, low-high, Items, last-item, more-items, Single, a-dot, a-literal, an-escape, a-class, Level, Reads, single, no-byte, no-word, in-group, one-atom, one-star, one-factor, next-factor, one-branch, next-branch}
 use Rattle.scope.specs.Text.Judge.{Pattern}
 use Rattle.scope.proofs.Counting.Tests.{below}
-use Rattle.scope.specs.Text.Modes.{Piece, atom, low, high, Mode, await, done, back, code, digit, State, stuck, at, afterAtom, bareIn, begins, again, ends, next, runTo}
+use Rattle.scope.specs.Text.Modes.{Piece, atom, low, high, Mode, await, done, back, digit, State, stuck, at, afterAtom, bareIn, begins, again, ends, next, runTo}
+use Rattle.scope.specs.Text.Modes as mode
 use Rattle.judge_state.specs.Notes.{Marks, since, started, asRead, nested, begun, dashed, marked, note, blank, Notes}
 use Rattle.judge.proofs.Nested.{inside, inside-opened}
 
@@ -58,7 +60,7 @@ items-cons (range a b i) l = rw append-nil
 record Items-end (s : List ℕ) (j n : ℕ) (k : Marks) (f : List ℕ) : Type 0 where
   marks : Marks
   goes : AwaitsNoted s j low n marks
-  closes : byte s j ≡ 93 → InModeNoted s (j + 1) afterAtom n marks
+  closes : byte s j ≡ code "]" → InModeNoted s (j + 1) afterAtom n marks
   grown : NotesGrown k marks f [] []
 
 grown-on : {k k′ k″ : Marks} {f f′ o o′ p p′ : List ℕ} → NotesGrown k k′ f o p → NotesGrown k′ k″ f′ o′ p′ → NotesGrown k k″ (f ++ f′) (o ++ o′) (p ++ p′)
@@ -107,14 +109,14 @@ module _ {s : List ℕ} where
       → InModeNoted s (i + 1) m n′ k′
   taken a e d = record { state = rw (add-one, a .state) (e (a .other)); marks = rw (add-one, a .marks) (d (a .others)) }
 
-  to-back : {i n : ℕ} {p : Piece} {k : Marks} → AwaitsNoted s i p n k → byte s i ≡ 92 → InModeNoted s (i + 1) (back p) n (started p i k)
+  to-back : {i n : ℕ} {p : Piece} {k : Marks} → AwaitsNoted s i p n k → byte s i ≡ code "\\" → InModeNoted s (i + 1) (back p) n (started p i k)
   unfolding literal classLiteral
   to-back {p = atom} a h = taken a (λ x. rw h refl) (λ x. rw h refl)
   to-back {p = low} a h = taken a (λ x. rw h refl) (λ x. rw h refl)
   to-back {p = high} a h = taken a (λ x. rw h refl) (λ x. rw h refl)
 
   -- the first digit is kept
-  first-digit : {n : ℕ} {p : Piece} {k : Marks} (i j : ℕ) → InModeNoted s (i + j) (code p) n k → notesTo s (i + suc j) .half ≡ hex (byte s (i + j))
+  first-digit : {n : ℕ} {p : Piece} {k : Marks} (i j : ℕ) → InModeNoted s (i + j) (mode.code p) n k → notesTo s (i + suc j) .half ≡ hex (byte s (i + j))
   first-digit i j x = rw (add-suc, x .state) refl
 
   -- and the second makes the byte of the two
@@ -122,7 +124,7 @@ module _ {s : List ℕ} where
       → InModeNoted s (i + suc j) (done p) n (asRead p (h * 16 + hex (byte s (i + j))) k)
   second-digit i j x e r = record { state = rw (add-suc, x .state, below _ 16 .full r) refl; marks = rw (add-suc, x .state, x .marks, e) refl }
 
-  code-drives : {n : ℕ} {p : Piece} {k : Marks} (i : ℕ) → InModeNoted s (i + 2) (code p) n k → hex (byte s (i + 2)) < 16 → hex (byte s (i + 3)) < 16
+  code-drives : {n : ℕ} {p : Piece} {k : Marks} (i : ℕ) → InModeNoted s (i + 2) (mode.code p) n k → hex (byte s (i + 2)) < 16 → hex (byte s (i + 3)) < 16
       → InModeNoted s (i + 4) (done p) n (asRead p (hex (byte s (i + 2)) * 16 + hex (byte s (i + 3))) k)
   code-drives {p = p} i x l r = second-digit i 3 (further {m′ = digit p} i 2 x (rw (below _ 16 .full l) refl) (λ _. refl)) (first-digit i 2 x) r
 
@@ -135,7 +137,7 @@ module _ {s : List ℕ} where
   byte-drives e (bare h) a = taken a (λ x. rw (e, h) refl) (λ x. rw (e, h) refl)
   byte-drives e (escaped c) a = escape-drives c a
 
-  to-dash : {j n : ℕ} {k : Marks} → InModeNoted s j (done low) n k → byte s j ≡ 45 → InModeNoted s (j + 1) (await high) n (since j k)
+  to-dash : {j n : ℕ} {k : Marks} → InModeNoted s j (done low) n k → byte s j ≡ code "-" → InModeNoted s (j + 1) (await high) n (since j k)
   unfolding classLiteral
   to-dash x h = on x (rw h refl) (λ _. rw h refl)
 
@@ -148,7 +150,7 @@ module _ {s : List ℕ} where
       let x = byte-drives {n = n} {p = high} refl d (awaited (to-dash (byte-drives refl c a) h)) in
       record { marks = _; goes = more x; closes = λ h. on x (rw h refl) (λ _. rw h refl); grown = record { falls = rw append-nil; opens = rw append-nil; firsts = rw append-nil } }
 
-  class-drives : {i j n : ℕ} {l : List Item} {k : Marks} → Items s i j l → byte s j ≡ 93 → AwaitsNoted s i low n k → AtomEnds s (j + 1) n k (fallingItems l) [] []
+  class-drives : {i j n : ℕ} {l : List Item} {k : Marks} → Items s i j l → byte s j ≡ code "]" → AwaitsNoted s i low n k → AtomEnds s (j + 1) n k (fallingItems l) [] []
   unfolding fallingItems
   class-drives (last-item x) h a = let e = item-drives x a in record { marks = e .marks; ends = e .closes h; grown = e .grown }
   class-drives (more-items x l) h a = let e = item-drives x a in rw items-cons (since-ends (e .grown) (class-drives l h (e .goes)))
@@ -158,7 +160,7 @@ module _ {s : List ℕ} where
   positioned x = record { marks = _; ends = x; grown = first-grown refl refl refl }
 
   -- `[`
-  to-class : {i n : ℕ} {k : Marks} → AwaitsNoted s i atom n k → byte s i ≡ 91 → InModeNoted s (i + 1) (await low) n (asRead atom 0 (since i k))
+  to-class : {i n : ℕ} {k : Marks} → AwaitsNoted s i atom n k → byte s i ≡ code "[" → InModeNoted s (i + 1) (await low) n (asRead atom 0 (since i k))
   unfolding literal
   to-class a h = taken a (λ x. rw h refl) (λ x. rw h refl)
 
@@ -174,7 +176,7 @@ module _ {s : List ℕ} where
   unmarked x = record { marks = _; ends = x; grown = none-grown refl refl refl }
 
   -- `(`
-  to-group : {i n : ℕ} {k : Marks} → AwaitsNoted s i atom n k → byte s i ≡ 40 → InModeNoted s (i + 1) (await atom) (suc n) (nested n i (since i k))
+  to-group : {i n : ℕ} {k : Marks} → AwaitsNoted s i atom n k → byte s i ≡ code "(" → InModeNoted s (i + 1) (await atom) (suc n) (nested n i (since i k))
   unfolding literal
   to-group a h = taken a (λ x. rw h refl) (λ x. rw h refl)
 
@@ -182,15 +184,15 @@ module _ {s : List ℕ} where
   then : {j n n′ : ℕ} {m : Mode} {k : Marks} → InModeNoted s j afterAtom n k → next afterAtom n (byte s j) ≡ at m n′ → ((x : Marks) → begun atom n (byte s j) j k x ≡ x) → InModeNoted s (j + 1) m n′ k
   then x e d = on x e (λ _. d _)
 
-  to-star : {j n : ℕ} {k : Marks} → InModeNoted s j afterAtom n k → byte s j ≡ 42 → InModeNoted s (j + 1) afterAtom n k
+  to-star : {j n : ℕ} {k : Marks} → InModeNoted s j afterAtom n k → byte s j ≡ code "*" → InModeNoted s (j + 1) afterAtom n k
   unfolding literal
   to-star x h = then x (rw h refl) (λ x. rw h refl)
 
-  to-bar : {j n : ℕ} {k : Marks} → InModeNoted s j afterAtom n k → byte s j ≡ 124 → InModeNoted s (j + 1) (await atom) n k
+  to-bar : {j n : ℕ} {k : Marks} → InModeNoted s j afterAtom n k → byte s j ≡ code "|" → InModeNoted s (j + 1) (await atom) n k
   unfolding literal
   to-bar x h = then x (rw h refl) (λ x. rw h refl)
 
-  to-close : {j n : ℕ} {k : Marks} → InModeNoted s j afterAtom (suc n) k → byte s j ≡ 41 → InModeNoted s (j + 1) afterAtom n k
+  to-close : {j n : ℕ} {k : Marks} → InModeNoted s j afterAtom (suc n) k → byte s j ≡ code ")" → InModeNoted s (j + 1) afterAtom n k
   unfolding literal
   to-close x h = then x (rw h refl) (λ x. rw h refl)
 

@@ -12,6 +12,7 @@ use mathlib.Core.List.{List}
 use native.Mathlib.Omega.{arith}
 use native.Mathlib.Numerals.{add-one}
 use lib.ListN.{length, getD}
+use Rattle.scope.specs.Limits.{byteValues}
 use Rattle.scope.specs.Text.Tree.{Tree}
 use Rattle.scope.specs.Text.Judge.{Pattern}
 use Rattle.scope.proofs.Counting.Lists.{any-default}
@@ -53,11 +54,11 @@ free x h = free-stage (x .stage) (pieceOf (x .piece)) (x .deep) h
 module _ (s : List ℕ) (i : ℕ) {x y : Reading} (h : i < length s) (f : Follows s i x) (t : Advances x (getD s i 0) i y) where
   -- the next state
   state-on : standing y ≡ runTo s (i + 1)
-  state-on = t .state ∙ rw (add-one, f .state, any-default s i 0 256 h) refl
+  state-on = t .state ∙ rw (add-one, f .state, any-default s i 0 byteValues h) refl
 
   -- one byte more
   pub follows-on : y .stage ≤ 4 → Follows s (i + 1) y
-  follows-on l = record { state = state-on; notes = rw add-one (rw (any-default s i 0 256 h, f .state) at (t .notes (ap isStuck (sym (t .state)) ∙ free y l) (notesTo s i) (f .notes))) }
+  follows-on l = record { state = state-on; notes = rw add-one (rw (any-default s i 0 byteValues h, f .state) at (t .notes (ap isStuck (sym (t .state)) ∙ free y l) (notesTo s i) (f .notes))) }
 
   -- a byte on which the machine gets stuck
   pub stops : x .stage ≤ 4 → 4 < y .stage → JudgesText s (Judged.Syntax i)

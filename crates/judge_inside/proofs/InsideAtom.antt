@@ -4,13 +4,15 @@
 --   byte-await, class-closed, dash-.., byte-else: one of them is awaited or done
 --   back-.., code-.., digit-..: escapes; no-empty, other-empty: neither `\e` nor `\0`
 use Prim.Native.Nat.{ℕ, zero, suc, _+_, _*_, _<_, _≤_}
+use Prim.Native.Char.{code}
 use mathlib.Core.Path.{_≡_, refl, sym, _∙_}
 use mathlib.Core.Bool.{true, false}
 use mathlib.Core.Logic.{_⊎_, inl, inr}
 use native.Mathlib.Omega.{arith}
 use Rattle.scope.specs.Text.Grammar.{escapable, classLiteral, hex}
 use Rattle.scope.proofs.Counting.Tests.{below, not-below}
-use Rattle.scope.specs.Text.Modes.{Piece, atom, low, high, done, back, code, digit, stuck, at, afterAtom, begins, empties, next}
+use Rattle.scope.specs.Text.Modes.{Piece, atom, low, high, done, back, digit, stuck, at, afterAtom, begins, empties, next}
+use Rattle.scope.specs.Text.Modes as mode
 use Rattle.judge_state.specs.Notes.{Notes, readAs, begunAt, noted}
 use Rattle.judge_state.specs.Reading.{pieceOf, standing, NotesKept, Takes}
 use Rattle.judge_state.specs.declared.Reading.{Reading}
@@ -38,15 +40,15 @@ module _ (b : ℕ) {x y : Reading} where
   byte-bare high-in e t = takes-as (rw e refl) (λ m. rw e refl) t
 
   -- a backslash
-  pub byte-back : {p : Piece} → InClass p → b ≡ 92 → standing y ≡ at (back p) (x .deep) → SameNotes x y → Begins p x b 0 y
+  pub byte-back : {p : Piece} → InClass p → b ≡ code "\\" → standing y ≡ at (back p) (x .deep) → SameNotes x y → Begins p x b 0 y
   unfolding classLiteral
   byte-back low-in e s k = takes-same (s ∙ rw e refl) (λ m. rw e refl) k
   byte-back high-in e s k = takes-same (s ∙ rw e refl) (λ m. rw e refl) k
 
   -- any other byte
-  pub byte-none : {p : Piece} → InClass p → classLiteral b ≡ false → (b ≡ 92 → ⊥) → standing y ≡ stuck → Begins p x b 0 y
-  byte-none low-in e f = takes-stuck (rw (e, unlike 92 b f) refl)
-  byte-none high-in e f = takes-stuck (rw (e, unlike 92 b f) refl)
+  pub byte-none : {p : Piece} → InClass p → classLiteral b ≡ false → (b ≡ code "\\" → ⊥) → standing y ≡ stuck → Begins p x b 0 y
+  byte-none low-in e f = takes-stuck (rw (e, unlike f) refl)
+  byte-none high-in e f = takes-stuck (rw (e, unlike f) refl)
 
 -- ---- where a byte of a class is awaited or done
 
@@ -61,25 +63,25 @@ module _ {x y : Reading} (b i : ℕ) where
   byte-await c l t = takes-as (rw c refl) (λ m. rw c (anywhere l (x .deep) b i m)) t
 
   -- `-` after a range
-  pub dash-none : x .stage ≡ 1 → 0 < x .piece → (x .piece ≡ 1 → ⊥) → b ≡ 45 → standing y ≡ stuck → Advances x b i y
+  pub dash-none : x .stage ≡ 1 → 0 < x .piece → (x .piece ≡ 1 → ⊥) → b ≡ code "-" → standing y ≡ stuck → Advances x b i y
   unfolding classLiteral
   dash-none c h f e = takes-stuck (rw (c, is-high (x .piece) (λ d. omega arith) f, e) refl)
 
   -- any other byte: another byte of the class may begin
-  pub byte-else : x .stage ≡ 1 → InClass (pieceOf (x .piece)) → (b ≡ 93 → ⊥) → (b ≡ 45 → ⊥) → Begins low (moved (x .stage) 1 (x .deep) x) b 0 y → Advances x b i y
+  pub byte-else : x .stage ≡ 1 → InClass (pieceOf (x .piece)) → (b ≡ code "]" → ⊥) → (b ≡ code "-" → ⊥) → Begins low (moved (x .stage) 1 (x .deep) x) b 0 y → Advances x b i y
   byte-else c l f g t = takes-as (rw c (state l)) (λ m. rw c (notes l m)) (record { state = t .state; notes = t .notes })
     where
       state : {p : Piece} → InClass p → next (done p) (x .deep) b ≡ begins low (x .deep) b stuck
-      state low-in = rw (unlike 45 b g, unlike 93 b f) refl
-      state high-in = rw (unlike 93 b f) refl
+      state low-in = rw (unlike g, unlike f) refl
+      state high-in = rw (unlike f) refl
 
       notes : {p : Piece} → InClass p → (m : Notes) → noted (done p) (x .deep) b i m ≡ begunAt low (x .deep) b 0 m
-      notes low-in m = rw (unlike 45 b g) refl
+      notes low-in m = rw (unlike g) refl
       notes high-in m = refl
 
 module _ {x : Reading} (b i : ℕ) (c : x .stage ≡ 1) where
   -- `]`
-  pub class-closed : InClass (pieceOf (x .piece)) → b ≡ 93 → Advances x b i (moved (x .stage) 0 (x .deep) x)
+  pub class-closed : InClass (pieceOf (x .piece)) → b ≡ code "]" → Advances x b i (moved (x .stage) 0 (x .deep) x)
   unfolding classLiteral
   class-closed l e = takes-same (rw c (sym (state l))) (λ m. rw c (notes l m)) (λ m k. k)
     where
@@ -92,7 +94,7 @@ module _ {x : Reading} (b i : ℕ) (c : x .stage ≡ 1) where
       notes high-in m = rw e refl
 
   -- `-` after a byte, which is a low end then
-  pub dash-taken : x .piece ≡ 1 → b ≡ 45 → Advances x b i (moved 0 2 (x .deep) (fromAt i x))
+  pub dash-taken : x .piece ≡ 1 → b ≡ code "-" → Advances x b i (moved 0 2 (x .deep) (fromAt i x))
   unfolding classLiteral
   dash-taken d e = record { state = rw (c, d, e) refl; notes = λ _ n k. rw (c, d, e) (kept-since k i) }
 
@@ -104,26 +106,26 @@ module _ (p : Piece) (b : ℕ) {x y : Reading} where
   back-byte e t = takes-as (rw e refl) (λ m. rw e refl) t
 
   -- `x`
-  pub back-code : b ≡ 120 → standing y ≡ at (code p) (x .deep) → SameNotes x y → Placeless (back p) x b y
+  pub back-code : b ≡ code "x" → standing y ≡ at (mode.code p) (x .deep) → SameNotes x y → Placeless (back p) x b y
   unfolding escapable
   back-code e s k = takes-same (s ∙ rw e refl) (λ m. rw e refl) k
 
   -- `e` and `0`, for an atom
-  pub back-empty : p ≡ atom → (b ≡ 101) ⊎ (b ≡ 48) → standing y ≡ at (done p) (x .deep) → SameNotes x y → Placeless (back p) x b y
+  pub back-empty : p ≡ atom → (b ≡ code "e") ⊎ (b ≡ code "0") → standing y ≡ at (done p) (x .deep) → SameNotes x y → Placeless (back p) x b y
   unfolding escapable
   back-empty a (inl e) s k = takes-same (s ∙ rw (a, e) refl) (λ m. rw e refl) k
   back-empty a (inr e) s k = takes-same (s ∙ rw (a, e) refl) (λ m. rw e refl) k
 
   -- any other byte
-  pub back-none : escapable b ≡ false → (b ≡ 120 → ⊥) → empties p (x .deep) b ≡ stuck → standing y ≡ stuck → Placeless (back p) x b y
-  back-none e f g = takes-stuck (rw (e, unlike 120 b f) g)
+  pub back-none : escapable b ≡ false → (b ≡ code "x" → ⊥) → empties p (x .deep) b ≡ stuck → standing y ≡ stuck → Placeless (back p) x b y
+  back-none e f g = takes-stuck (rw (e, unlike f) g)
 
   -- the first digit
-  pub code-first : {v : ℕ} → v ≡ hex b → v < 16 → standing y ≡ at (digit p) (x .deep) → ((m : Notes) → NotesKept m x → NotesKept (record { half = v; marks = m .marks }) y) → Placeless (code p) x b y
+  pub code-first : {v : ℕ} → v ≡ hex b → v < 16 → standing y ≡ at (digit p) (x .deep) → ((m : Notes) → NotesKept m x → NotesKept (record { half = v; marks = m .marks }) y) → Placeless (mode.code p) x b y
   code-first e h s k = record { state = s ∙ rw (← e, below _ 16 .full h) refl; notes = λ _ m r. rw (← e) (k m r) }
 
   -- no digit
-  pub code-none : {v : ℕ} → v ≡ hex b → 16 ≤ v → standing y ≡ stuck → Placeless (code p) x b y
+  pub code-none : {v : ℕ} → v ≡ hex b → 16 ≤ v → standing y ≡ stuck → Placeless (mode.code p) x b y
   code-none e h = takes-stuck (rw (← e, not-below _ 16 h) refl)
 
   -- the second digit
@@ -141,5 +143,5 @@ no-empty (suc zero) n b f = refl
 no-empty (suc (suc p)) n b f = refl
 
 -- for an atom
-pub other-empty : (p n b : ℕ) → p ≡ 0 → (b ≡ 101 → ⊥) → (b ≡ 48 → ⊥) → empties (pieceOf p) n b ≡ stuck
-other-empty p n b e f g = rw (e, unlike 101 b f, unlike 48 b g) refl
+pub other-empty : (p n b : ℕ) → p ≡ 0 → (b ≡ code "e" → ⊥) → (b ≡ code "0" → ⊥) → empties (pieceOf p) n b ≡ stuck
+other-empty p n b e f g = rw (e, unlike f, unlike g) refl

@@ -23,8 +23,8 @@ pub known : {r t v : Bool} → r ≡ t → r ≡ v → t ≡ v
 known e h = sym e ∙ h
 
 -- a byte that is not k
-pub unlike : (k b : ℕ) → (b ≡ k → ⊥) → eqb k b ≡ false
-unlike k b f = ne-eqb k b (λ e. f (sym e))
+pub unlike : {k b : ℕ} → (b ≡ k → ⊥) → eqb k b ≡ false
+unlike f = ne-eqb _ _ (λ e. f (sym e))
 
 -- no byte goes on
 pub takes-stuck : {s : State} {f : Notes → Notes} {x y : Reading} → s ≡ stuck → standing y ≡ stuck → Takes s f x y

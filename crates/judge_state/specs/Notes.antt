@@ -9,13 +9,15 @@
 --   begun p n b i m x: after the byte b at i, where p may begin; x, if it does not
 --   noted m n b i: after the byte b at i, in the mode m with n open parentheses
 use Prim.Native.Nat.{ℕ, _+_, _*_}
+use Prim.Native.Char.{code}
 use mathlib.Core.Bool.{cond}
 use mathlib.Core.List.{List, [], _∷_, _++_}
 use lib.Dec.{eqb, ltb}
 use Rattle.scope.specs.Limits.{nestLimit}
 use Rattle.scope.specs.Text.Tree.{onlyIf}
 use Rattle.scope.specs.Text.Grammar.{escapable, hex}
-use Rattle.scope.specs.Text.Modes.{Piece, atom, low, high, Mode, await, done, back, code, digit, State, stuck, at, bareIn, again}
+use Rattle.scope.specs.Text.Modes.{Piece, atom, low, high, Mode, await, done, back, digit, State, stuck, at, bareIn, again}
+use Rattle.scope.specs.Text.Modes as mode
 
 -- from: the first byte of the atom, or the dash of the range; least: the byte that a dash would make the low end of a range
 pub record Marks : Type 0 where
@@ -49,17 +51,17 @@ nested n i m = record { from = m .from; least = m .least; falls = m .falls; open
 -- `.`, `[` and `(`
 abbrev pub opening : Piece → ℕ → ℕ → ℕ → Marks → Marks → Marks
 opening atom n b i m x =
-    cond (eqb 46 b) (asRead atom b (since i m)) (cond (eqb 91 b) (asRead atom b (since i m)) (cond (eqb 40 b) (nested n i (since i m)) x))
+    cond (eqb (code ".") b) (asRead atom b (since i m)) (cond (eqb (code "[") b) (asRead atom b (since i m)) (cond (eqb (code "(") b) (nested n i (since i m)) x))
 opening low n b i m x = x
 opening high n b i m x = x
 
 abbrev pub begun : Piece → ℕ → ℕ → ℕ → Marks → Marks → Marks
-begun p n b i m x = cond (bareIn p b) (asRead p b (started p i m)) (cond (eqb 92 b) (started p i m) (opening p n b i m x))
+begun p n b i m x = cond (bareIn p b) (asRead p b (started p i m)) (cond (eqb (code "\\") b) (started p i m) (opening p n b i m x))
 
 -- `-` after a low end
 abbrev pub dashed : Piece → ℕ → ℕ → Marks → Marks
 dashed atom b i m = m
-dashed low b i m = cond (eqb 45 b) (since i m) m
+dashed low b i m = cond (eqb (code "-") b) (since i m) m
 dashed high b i m = m
 
 -- h is the first digit
@@ -67,14 +69,14 @@ abbrev pub marked : Mode → ℕ → ℕ → ℕ → ℕ → Marks → Marks
 marked (await p) n b i h m = begun p n b i m m
 marked (done p) n b i h m = begun (again p) n b i m (dashed p b i m)
 marked (back p) n b i h m = cond (escapable b) (asRead p b m) m
-marked (code p) n b i h m = m
+marked (mode.code p) n b i h m = m
 marked (digit p) n b i h m = asRead p (h * 16 + hex b) m
 
 abbrev pub halved : Mode → ℕ → ℕ → ℕ
 halved (await p) b h = h
 halved (done p) b h = h
 halved (back p) b h = h
-halved (code p) b h = hex b
+halved (mode.code p) b h = hex b
 halved (digit p) b h = h
 
 abbrev pub noted : Mode → ℕ → ℕ → ℕ → Notes → Notes

@@ -4,13 +4,15 @@
 --   begin-..: an atom may begin; await-none, star-taken, bar-taken, close-..: it is awaited or done; atom-else: so it may begin
 --   at-..: by the stage
 use Prim.Native.Nat.{ℕ, zero, suc, _+_, _-_, _<_, _≤_}
+use Prim.Native.Char.{code}
 use mathlib.Core.Path.{_≡_, refl, sym, _∙_}
 use mathlib.Core.Bool.{true, false}
 use mathlib.Core.Logic.{_⊎_, inl, inr}
 use native.Mathlib.Omega.{arith}
 use native.Mathlib.Numerals.{add-one}
 use Rattle.scope.specs.Text.Grammar.{literal}
-use Rattle.scope.specs.Text.Modes.{atom, await, back, code, digit, stuck, at, afterAtom, closes}
+use Rattle.scope.specs.Text.Modes.{atom, await, back, digit, stuck, at, afterAtom, closes}
+use Rattle.scope.specs.Text.Modes as mode
 use Rattle.judge_state.specs.Reading.{pieceOf, stateOf, standing, ReadAs}
 use Rattle.judge_state.specs.declared.Reading.{Reading}
 use Rattle.judge_state.proofs.Keeps.{kept-since}
@@ -32,66 +34,66 @@ module _ {x y : Reading} (b i : ℕ) (e : x .piece ≡ 0) where
   begin-literal h t = record { state = t .state ∙ rw (e, h) refl; notes = λ _ n k. rw h (rw e at (t .notes refl _ (kept-since k i))) }
 
   -- `.`
-  pub begin-dot : b ≡ 46 → ReadAs b (fromAt i x) y → Begins atom x b i y
+  pub begin-dot : b ≡ code "." → ReadAs b (fromAt i x) y → Begins atom x b i y
   unfolding literal
   begin-dot h t = record { state = t .state ∙ rw (e, h) refl; notes = λ _ n k. rw h (rw e at (t .notes refl _ (kept-since k i))) }
 
   -- `[`
-  pub begin-class : b ≡ 91 → ReadAs b (fromAt i x) y → y .deep ≡ x .deep → Begins atom x b i (moved 0 1 (y .deep) y)
+  pub begin-class : b ≡ code "[" → ReadAs b (fromAt i x) y → y .deep ≡ x .deep → Begins atom x b i (moved 0 1 (y .deep) y)
   unfolding literal
   begin-class h t d = record { state = rw (d, h) refl; notes = λ _ n k. rw h (rw e at (t .notes refl _ (kept-since k i))) }
 
   -- `(`
-  pub begin-group : b ≡ 40 → Nests i (fromAt i x) y → Begins atom x b i y
+  pub begin-group : b ≡ code "(" → Nests i (fromAt i x) y → Begins atom x b i y
   unfolding literal
   begin-group h t = record { state = t .state ∙ rw h refl; notes = λ _ n k. rw h (t .notes refl _ (kept-since k i)) }
 
 -- a backslash
-pub begin-back : {x : Reading} (b i : ℕ) → x .piece ≡ 0 → b ≡ 92 → Begins atom x b i (moved 2 (x .piece) (x .deep) (fromAt i x))
+pub begin-back : {x : Reading} (b i : ℕ) → x .piece ≡ 0 → b ≡ code "\\" → Begins atom x b i (moved 2 (x .piece) (x .deep) (fromAt i x))
 unfolding literal
 begin-back b i e h = record { state = rw (e, h) refl; notes = λ _ n k. rw h (kept-since k i) }
 
 -- any other byte
-pub begin-none : {x y : Reading} (b i : ℕ) → literal b ≡ false → (b ≡ 92 → ⊥) → (b ≡ 46 → ⊥) → (b ≡ 91 → ⊥) → (b ≡ 40 → ⊥) → standing y ≡ stuck → Begins atom x b i y
-begin-none b i h f g l m = takes-stuck (rw (h, unlike 92 b f, unlike 46 b g, unlike 91 b l, unlike 40 b m) refl)
+pub begin-none : {x y : Reading} (b i : ℕ) → literal b ≡ false → (b ≡ code "\\" → ⊥) → (b ≡ code "." → ⊥) → (b ≡ code "[" → ⊥) → (b ≡ code "(" → ⊥) → standing y ≡ stuck → Begins atom x b i y
+begin-none b i h f g l m = takes-stuck (rw (h, unlike f, unlike g, unlike l, unlike m) refl)
 
 -- ---- where an atom is awaited or done
 
 module _ {x y : Reading} (b i : ℕ) (e : x .piece ≡ 0) where
   -- `*`, `|` and `)` where an atom is awaited
-  pub await-none : x .stage ≡ 0 → (b ≡ 42) ⊎ ((b ≡ 124) ⊎ (b ≡ 41)) → standing y ≡ stuck → Advances x b i y
+  pub await-none : x .stage ≡ 0 → (b ≡ code "*") ⊎ ((b ≡ code "|") ⊎ (b ≡ code ")")) → standing y ≡ stuck → Advances x b i y
   unfolding literal
   await-none d (inl h) = takes-stuck (rw (d, e, h) refl)
   await-none d (inr (inl h)) = takes-stuck (rw (d, e, h) refl)
   await-none d (inr (inr h)) = takes-stuck (rw (d, e, h) refl)
 
   -- `)` where nothing is open
-  pub close-none : x .stage ≡ 1 → b ≡ 41 → x .deep ≡ 0 → standing y ≡ stuck → Advances x b i y
+  pub close-none : x .stage ≡ 1 → b ≡ code ")" → x .deep ≡ 0 → standing y ≡ stuck → Advances x b i y
   unfolding literal
   close-none d h z = takes-stuck (rw (d, e, h, z) refl)
 
   -- any other byte: an atom may begin
-  pub atom-else : x .stage ≤ 1 → (b ≡ 42 → ⊥) → (b ≡ 124 → ⊥) → (b ≡ 41 → ⊥) → Begins atom x b i y → Advances x b i y
+  pub atom-else : x .stage ≤ 1 → (b ≡ code "*" → ⊥) → (b ≡ code "|" → ⊥) → (b ≡ code ")" → ⊥) → Begins atom x b i y → Advances x b i y
   atom-else d f g h t = go (x .stage) refl d
     where
       go : (k : ℕ) → x .stage ≡ k → k ≤ 1 → Advances x b i y
       go zero c l = takes-as (rw (c, e) refl) (λ n. rw (c, e) refl) t
-      go (suc zero) c l = takes-as (rw (c, e, unlike 42 b f, unlike 124 b g, unlike 41 b h) refl) (λ n. rw (c, e) refl) t
+      go (suc zero) c l = takes-as (rw (c, e, unlike f, unlike g, unlike h) refl) (λ n. rw (c, e) refl) t
       go (suc (suc k)) c l = absurd (omega arith)
 
 module _ {x : Reading} (b i : ℕ) (e : x .piece ≡ 0) (d : x .stage ≡ 1) where
   -- `*`
-  pub star-taken : b ≡ 42 → Advances x b i x
+  pub star-taken : b ≡ code "*" → Advances x b i x
   unfolding literal
   star-taken h = record { state = rw (d, e, h) refl; notes = λ _ n k. rw (d, e, h) k }
 
   -- `|`
-  pub bar-taken : b ≡ 124 → Advances x b i (moved 0 (x .piece) (x .deep) x)
+  pub bar-taken : b ≡ code "|" → Advances x b i (moved 0 (x .piece) (x .deep) x)
   unfolding literal
   bar-taken h = record { state = rw (d, e, h) refl; notes = λ _ n k. rw (d, e, h) k }
 
   -- `)`
-  pub close-taken : b ≡ 41 → (x .deep ≡ 0 → ⊥) → Advances x b i (moved (x .stage) (x .piece) (x .deep - 1) x)
+  pub close-taken : b ≡ code ")" → (x .deep ≡ 0 → ⊥) → Advances x b i (moved (x .stage) (x .piece) (x .deep - 1) x)
   unfolding literal
   close-taken h f = record { state = rw (d, e, h) (sym (less (x .deep) f)); notes = λ _ n k. rw (d, e, h) k }
     where
@@ -107,7 +109,7 @@ module _ {x y : Reading} (b i : ℕ) where
   at-back c t = takes-as (rw c refl) (λ m. rw c refl) t
 
   -- after `x`
-  pub at-code : x .stage ≡ 3 → Placeless (code (pieceOf (x .piece))) x b y → Advances x b i y
+  pub at-code : x .stage ≡ 3 → Placeless (mode.code (pieceOf (x .piece))) x b y → Advances x b i y
   at-code c t = takes-as (rw c refl) (λ m. rw c refl) t
 
   -- after the first digit

@@ -7,6 +7,7 @@
 --   Rest s i k m m′ j l: of the items l of a class that ends at j, some are left at i; Rests: so it is for every class that can be read
 --   rest-all, rest-item, rest-more, rest-none: all are left; there is one more; it was read; none is left
 use Prim.Native.Nat.{ℕ, _+_, _<_, _≤_}
+use Prim.Native.Char.{code}
 use mathlib.Core.Path.{_≡_, refl, sym, ap, subst, _∙_}
 use mathlib.Core.Bool.{_||_}
 use mathlib.Core.List.{List, []}
@@ -48,26 +49,26 @@ module _ {s : List ℕ} where
   at {j = j} {b = b} e c = subst (λ (n : ℕ). ClassByte s (n + 1) j b) e c
 
   module _ {i a low b : ℕ} (c : ClassByte s i a low) (p : b ≡ byte s a) where
-    high-of : {j : ℕ} {x : Item} → length s ≤ patternLimit → OneItem s i j x → (byte s j ≡ 45 → ⊥) → b ≡ 45 → Some ClassByte s (a + 1)
+    high-of : {j : ℕ} {x : Item} → length s ≤ patternLimit → OneItem s i j x → (byte s j ≡ code "-" → ⊥) → b ≡ code "-" → Some ClassByte s (a + 1)
     high-of h (one-byte d) n e = absurd (n (ap (byte s) (class-byte-one d c .0) ∙ sym p ∙ e))
     high-of h (low-high d g u) n e = let v = at (class-byte-one d c .0) u in some ClassByte h v (class-byte-on v) (class-byte-in v)
 
-    pub item-high : Some WholeItem s i → b ≡ 45 → Some ClassByte s (a + 1)
+    pub item-high : Some WholeItem s i → b ≡ code "-" → Some ClassByte s (a + 1)
     item-high q e = high-of (q .short) (q .reads .0) (q .reads .1) e
 
-    range-of : {z high j : ℕ} {x : Item} → ClassByte s (a + 1) z high → b ≡ 45 → OneItem s i j x → (byte s j ≡ 45 → ⊥) → (z ≡ j) × (x ≡ range low high a)
+    range-of : {z high j : ℕ} {x : Item} → ClassByte s (a + 1) z high → b ≡ code "-" → OneItem s i j x → (byte s j ≡ code "-" → ⊥) → (z ≡ j) × (x ≡ range low high a)
     range-of u e (one-byte d) n = absurd (n (ap (byte s) (class-byte-one d c .0) ∙ sym p ∙ e))
     range-of u e (low-high d g v) n = let (o, l) = class-byte-one d c in let (o₂, l₂) = class-byte-one u (at o v) in (o₂, cc)
 
-    lone-of : {j : ℕ} {x : Item} → (b ≡ 45 → ⊥) → OneItem s i j x → (a ≡ j) × (x ≡ lone low)
+    lone-of : {j : ℕ} {x : Item} → (b ≡ code "-" → ⊥) → OneItem s i j x → (a ≡ j) × (x ≡ lone low)
     lone-of e (one-byte d) = let (o, l) = class-byte-one d c in (sym o, ap lone l)
     lone-of e (low-high d g v) = absurd (e (p ∙ ap (byte s) (sym (class-byte-one d c .0)) ∙ g))
 
-    pub item-range : {z high k : ℕ} {m m′ : List ℕ} → Some WholeItem s i → ClassByte s (a + 1) z high → b ≡ 45 → Marked k (between low high) m m′ → Took WholeItem itemSet s i k m m′ z
+    pub item-range : {z high k : ℕ} {m m′ : List ℕ} → Some WholeItem s i → ClassByte s (a + 1) z high → b ≡ code "-" → Marked k (between low high) m m′ → Took WholeItem itemSet s i k m m′ z
     unfolding itemSet
     item-range q u e m = took q item-bounds (λ j x (r, n). let (o, l) = range-of u e r n in (o, rw l (marked-as m (λ n h. refl))))
 
-    pub item-lone : {k : ℕ} {m m′ : List ℕ} → Some WholeItem s i → (b ≡ 45 → ⊥) → Marked k (between low low) m m′ → Took WholeItem itemSet s i k m m′ a
+    pub item-lone : {k : ℕ} {m m′ : List ℕ} → Some WholeItem s i → (b ≡ code "-" → ⊥) → Marked k (between low low) m m′ → Took WholeItem itemSet s i k m m′ a
     unfolding itemSet
     item-lone q e m = took q item-bounds (λ j x (r, n). let (o, l) = lone-of e r in (o, rw l (marked-as m (λ n h. between-one low n))))
 
@@ -95,30 +96,30 @@ record NextItem (s : List ℕ) (i j : ℕ) (l : List Item) : Type 0 where
   all : (n : ℕ) → itemsSet l n ≡ (itemSet item n || itemsSet after n)
 
 module _ {s : List ℕ} where
-  of-items : {i j : ℕ} {l : List Item} → Items s i j l → byte s j ≡ 93 → NextItem s i j l
+  of-items : {i j : ℕ} {l : List Item} → Items s i j l → byte s j ≡ code "]" → NextItem s i j l
   unfolding itemsSet classLiteral
   of-items (last-item x) h = record { end = _; item = _; first = (x, λ e. omega arith); after = []; todo = none; all = λ n. refl }
-  of-items (more-items x l) h = record { end = _; item = _; first = (x, items-head l 45 refl (λ e. omega arith)); after = _; todo = more l; all = λ n. refl }
+  of-items (more-items x l) h = record { end = _; item = _; first = (x, items-head l (code "-") refl (λ e. omega arith)); after = _; todo = more l; all = λ n. refl }
 
-  next : {i j b : ℕ} {l : List Item} → Todo s i j l → byte s j ≡ 93 → b ≡ byte s i → (b ≡ 93 → ⊥) → NextItem s i j l
+  next : {i j b : ℕ} {l : List Item} → Todo s i j l → byte s j ≡ code "]" → b ≡ byte s i → (b ≡ code "]" → ⊥) → NextItem s i j l
   next none h p n = absurd (n (p ∙ h))
   next (more l) h p n = of-items l h
 
-  stop : {i j b : ℕ} {l : List Item} → Todo s i j l → b ≡ byte s i → b ≡ 93 → (i ≡ j) × (l ≡ [])
+  stop : {i j b : ℕ} {l : List Item} → Todo s i j l → b ≡ byte s i → b ≡ code "]" → (i ≡ j) × (l ≡ [])
   unfolding classLiteral
   stop none p e = (refl, refl)
-  stop (more l) p e = absurd (items-head l 93 refl (λ z. omega arith) (sym p ∙ e))
+  stop (more l) p e = absurd (items-head l (code "]") refl (λ z. omega arith) (sym p ∙ e))
 
   pub rest-all : (i k : ℕ) (m : List ℕ) → ItemsLeft s i i k m m
   rest-all i k m = record { says = λ j l (r, h). record { rest = l; todo = more r; left = left-all k (itemsSet l) m } }
 
   module _ {at i k b : ℕ} {m m′ : List ℕ} (p : Some WholeItems s at) (f : ItemsLeft s at i k m m′) (q : b ≡ byte s i) where
     -- there is one more item
-    pub rest-item : (b ≡ 93 → ⊥) → Some WholeItem s i
+    pub rest-item : (b ≡ code "]" → ⊥) → Some WholeItem s i
     rest-item n = let x = next (f .says (p .end) (p .what) (p .reads) .todo) (p .reads .1) q n in some WholeItem (p .short) (x .first) (item-on (x .first .0)) (item-in (x .first .0))
 
     -- it was read
-    pub rest-more : {m″ : List ℕ} {r : ℕ} → (b ≡ 93 → ⊥) → Took WholeItem itemSet s i k m′ m″ r → ItemsLeft s at r k m m″
+    pub rest-more : {m″ : List ℕ} {r : ℕ} → (b ≡ code "]" → ⊥) → Took WholeItem itemSet s i k m′ m″ r → ItemsLeft s at r k m m″
     rest-more {m″} {r} n t = record { says = go }
       where
         go : (j : ℕ) (l : List Item) → WholeItems s at j l → Rest s r k m m″ j l
@@ -129,6 +130,6 @@ module _ {s : List ℕ} where
             record { rest = y .after; todo = subst (λ (v : ℕ). Todo s v j (y .after)) (sym e) (y .todo); left = left-more (x .left) z (λ v h. y .all v) }
 
     -- none is left
-    pub rest-none : b ≡ 93 → Took WholeItems itemsSet s at k m m′ i
+    pub rest-none : b ≡ code "]" → Took WholeItems itemsSet s at k m m′ i
     unfolding itemsSet
     rest-none e = took p (λ j l (r, h). (items-on r, items-in r)) (λ j l w. let x = f .says j l w in let (z, y) = stop (x .todo) q e in (z, left-none (x .left) (λ n h. rw y refl)))

@@ -112,7 +112,7 @@ has-range (suc s) (suc t) (suc n) h =
 -- ---- bits stored
 
 -- the same place: the same set and the same byte
-meets : (q k b c n : ℕ) → b < 256 → n < 256 → c / 8 ≡ b / 8 → q * byteSet + n / 8 ≡ k * byteSet + b / 8 → between (b % 8) (c % 8) (n % 8) ≡ (eqb q k && between b c n)
+meets : (q k b c n : ℕ) → b < byteValues → n < byteValues → c / 8 ≡ b / 8 → q * byteSet + n / 8 ≡ k * byteSet + b / 8 → between (b % 8) (c % 8) (n % 8) ≡ (eqb q k && between b c n)
 meets q k b c n h l g e =
     same
     (between-is (b % 8) (c % 8) (n % 8))
@@ -125,7 +125,7 @@ misses : (q k b c n : ℕ) → c / 8 ≡ b / 8 → (q * byteSet + n / 8 ≡ k * 
 misses q k b c n g ne = same (and (equals q k) (between-is b c n)) (never (λ x. x)) (λ x. ne (omega (arith, x .0, x .1 .0, x .1 .1))) (λ x. absurd x)
 
 -- the bits of the bytes b to c, which lie in one byte, were stored
-pub mark-range : (k b c v : ℕ) (m : List ℕ) → k < positionLimit → byteSets ≤ length m → b < 256 → c / 8 ≡ b / 8 → ((n : ℕ) → has v n ≡ between (b % 8) (c % 8) n)
+pub mark-range : (k b c v : ℕ) (m : List ℕ) → k < positionLimit → byteSets ≤ length m → b < byteValues → c / 8 ≡ b / 8 → ((n : ℕ) → has v n ≡ between (b % 8) (c % 8) n)
     → Marked k (between b c) m (set m (k * byteSet + b / 8) (bitOr (getD m (k * byteSet + b / 8) 0) v))
 unfolding held
 mark-range k b c v m h l hb g ev = record {
@@ -133,7 +133,7 @@ mark-range k b c v m h l hb g ev = record {
   bits = λ q n hn. at q n hn (ℕ-discrete (q * byteSet + n / 8) (k * byteSet + b / 8));
 }
   where
-    at : (q n : ℕ) → n < 256 → Dec (q * byteSet + n / 8 ≡ k * byteSet + b / 8)
+    at : (q n : ℕ) → n < byteValues → Dec (q * byteSet + n / 8 ≡ k * byteSet + b / 8)
         → has (getD (set m (k * byteSet + b / 8) (bitOr (getD m (k * byteSet + b / 8) 0) v)) (q * byteSet + n / 8) 0) (n % 8) ≡ (has (getD m (q * byteSet + n / 8) 0) (n % 8) || (eqb q k && between b c n))
     at q n hn (yes e) =
         rw e (ap (λ (x : ℕ). has x (n % 8)) (getD-set-same m (k * byteSet + b / 8) _ 0 (omega arith)) ∙ has-or (getD m (k * byteSet + b / 8) 0) v (n % 8))

@@ -3,6 +3,7 @@
 --   single-dot, single-class, single-byte, single-literal: each was read
 --   single-items, single-escape, literal-byte: what can be read of it
 use Prim.Native.Nat.{ℕ, _+_, _<_}
+use Prim.Native.Char.{code}
 use mathlib.Core.Path.{_≡_, refl, sym, _∙_}
 use mathlib.Core.Bool.{true}
 use mathlib.Core.List.{List}
@@ -22,59 +23,59 @@ use Rattle.leaves.proofs.ClassItems.{some, took}
 -- the dot's bytes are those from 0 to 255
 pub any-byte : (n : ℕ) → n < byteValues → between 0 255 n ≡ anyByte n
 unfolding between anyByte
-any-byte n h = rw (le-leb 0 n (omega arith), le-leb n 255 (omega arith)) (sym (lt-ltb n 256 h))
+any-byte n h = rw (le-leb 0 n (omega arith), le-leb n 255 (omega arith)) (sym (lt-ltb n byteValues h))
 
 module _ {s : List ℕ} {i b : ℕ} (p : Some Single s i) (q : b ≡ byte s i) where
   -- one reading is every reading
   alone : {k r : ℕ} {x : Leaf} {m m′ : List ℕ} → Single s i r x → Marked k (setOf x) m m′ → Took Single setOf s i k m m′ r
   alone y m = took p (λ j z w. (single-on w, single-in w)) (λ j z w. let (e, d) = single-one y w in (e, rw d at m))
 
-  pub single-dot : {k : ℕ} {m m′ : List ℕ} → b ≡ 46 → Marked k (between 0 255) m m′ → Took Single setOf s i k m m′ (i + 1)
+  pub single-dot : {k : ℕ} {m m′ : List ℕ} → b ≡ code "." → Marked k (between 0 255) m m′ → Took Single setOf s i k m m′ (i + 1)
   unfolding setOf
   single-dot e m = alone (a-dot (sym q ∙ e)) (marked-as m any-byte)
 
-  class-of : {j : ℕ} {x : Leaf} → Single s i j x → b ≡ 91 → Some WholeItems s (i + 1)
+  class-of : {j : ℕ} {x : Leaf} → Single s i j x → b ≡ code "[" → Some WholeItems s (i + 1)
   unfolding literal
   class-of (a-dot h) e = absurd (omega arith)
   class-of (a-literal h) e = absurd (other literal h refl (sym q ∙ e))
   class-of (an-escape x) e = absurd (omega (arith, escape-head x))
   class-of (a-class h l k) e = some WholeItems (p .short) (l, k) (items-on l) (items-in l)
 
-  pub single-items : b ≡ 91 → Some WholeItems s (i + 1)
+  pub single-items : b ≡ code "[" → Some WholeItems s (i + 1)
   single-items = class-of (p .reads)
 
-  pub single-class : {k r : ℕ} {m m′ : List ℕ} → b ≡ 91 → Took WholeItems itemsSet s (i + 1) k m m′ r → Took Single setOf s i k m m′ (r + 1)
+  pub single-class : {k r : ℕ} {m m′ : List ℕ} → b ≡ code "[" → Took WholeItems itemsSet s (i + 1) k m m′ r → Took Single setOf s i k m m′ (r + 1)
   unfolding setOf
   single-class e t =
       let w = single-items e in
       let (z, m) = t .says (w .end) (w .what) (w .reads) in
       rw z (alone (a-class (sym q ∙ e) (w .reads .0) (w .reads .1)) (marked-as m (λ n h. refl)))
 
-  byte-of : {j : ℕ} {x : Leaf} → Single s i j x → b ≡ 92 → Some Escape s i
+  byte-of : {j : ℕ} {x : Leaf} → Single s i j x → b ≡ code "\\" → Some Escape s i
   unfolding literal
   byte-of (a-dot h) e = absurd (omega arith)
   byte-of (a-literal h) e = absurd (other literal h refl (sym q ∙ e))
   byte-of (an-escape x) e = some Escape (p .short) x (escape-on x) (escape-in x)
   byte-of (a-class h l k) e = absurd (omega arith)
 
-  pub single-escape : b ≡ 92 → Some Escape s i
+  pub single-escape : b ≡ code "\\" → Some Escape s i
   single-escape = byte-of (p .reads)
 
   pub single-byte : {k r c : ℕ} {m m′ : List ℕ} → Escape s i r c → Marked k (between c c) m m′ → Took Single setOf s i k m m′ r
   unfolding setOf
   single-byte {c = c} x m = alone (an-escape x) (marked-as m (λ n h. between-one c n))
 
-  literal-of : {j : ℕ} {x : Leaf} → Single s i j x → (b ≡ 46 → ⊥) → (b ≡ 91 → ⊥) → (b ≡ 92 → ⊥) → literal b ≡ true
+  literal-of : {j : ℕ} {x : Leaf} → Single s i j x → (b ≡ code "." → ⊥) → (b ≡ code "[" → ⊥) → (b ≡ code "\\" → ⊥) → literal b ≡ true
   literal-of (a-dot h) d c e = absurd (d (q ∙ h))
   literal-of (a-literal h) d c e = rw q h
   literal-of (an-escape x) d c e = absurd (e (q ∙ escape-head x))
   literal-of (a-class h l k) d c e = absurd (c (q ∙ h))
 
-  pub single-literal : {k : ℕ} {m m′ : List ℕ} → (b ≡ 46 → ⊥) → (b ≡ 91 → ⊥) → (b ≡ 92 → ⊥) → Marked k (between b b) m m′ → Took Single setOf s i k m m′ (i + 1)
+  pub single-literal : {k : ℕ} {m m′ : List ℕ} → (b ≡ code "." → ⊥) → (b ≡ code "[" → ⊥) → (b ≡ code "\\" → ⊥) → Marked k (between b b) m m′ → Took Single setOf s i k m m′ (i + 1)
   unfolding setOf
   single-literal d c e m = let h = rw q at (literal-of (p .reads) d c e) in alone (a-literal h) (marked-as m (λ n h. between-one b n ∙ rw q refl))
 
   -- a literal is a byte
-  pub literal-byte : (b ≡ 46 → ⊥) → (b ≡ 91 → ⊥) → (b ≡ 92 → ⊥) → b ≡ 256 → ⊥
+  pub literal-byte : (b ≡ code "." → ⊥) → (b ≡ code "[" → ⊥) → (b ≡ code "\\" → ⊥) → b ≡ byteValues → ⊥
   unfolding literal
   literal-byte d c e = other literal (literal-of (p .reads) d c e) refl

@@ -2,6 +2,7 @@
 --   ready-inner: it can be read
 --   answer-inner: it was read
 use Prim.Native.Nat.{ℕ, _+_}
+use Prim.Native.Char.{code}
 use mathlib.Core.Path.{_≡_, refl, sym, ap, _∙_}
 use mathlib.Core.List.{List}
 use native.Mathlib.Omega.{arith}
@@ -25,14 +26,14 @@ record Inner (s : List ℕ) (i j : ℕ) (t : Tree) : Type 0 where
   is : t ≡ group i tree
 
 module _ {s : List ℕ} where
-  inner : {i j : ℕ} {t : Tree} → byte s i ≡ 40 → Reads s atoms i j t → Inner s i j t
+  inner : {i j : ℕ} {t : Tree} → byte s i ≡ code "(" → Reads s atoms i j t → Inner s i j t
   unfolding closesExpr
   inner h (single x) = absurd (single-group x h)
   inner h (no-byte h′ k) = absurd (omega arith)
   inner h (no-word h′ k) = absurd (omega arith)
   inner h (in-group h′ r k) = record { end = _; tree = _; whole = (r, rw k refl); next = refl; is = refl }
 
-  module _ {i k b : ℕ} (p : Readable atoms k s i) (q : b ≡ byte s i) (e : b ≡ 40) where
+  module _ {i k b : ℕ} (p : Readable atoms k s i) (q : b ≡ byte s i) (e : b ≡ code "(") where
     pub ready-inner : Readable exprs k s (i + 1)
     unfolding expr
     ready-inner = let x = inner (sym q ∙ e) (p .whole .0) in ready exprs (p .short) (x .whole) (rw (x .is) at (p .brief))

@@ -5,6 +5,7 @@
 --   ready-atom, ready-factor, ready-branch: which can be read, too
 --   begun: what is read there is a first part of whatever the l may be
 use Prim.Native.Nat.{ℕ, _+_, _≤_}
+use Prim.Native.Char.{code}
 use mathlib.Core.Path.{_≡_, refl, sym, subst}
 use mathlib.Core.Bool.{true}
 use mathlib.Core.List.{List}
@@ -24,11 +25,11 @@ use Rattle.factors.proofs.ReadsIn.{reads-in}
 
 -- ---- what ends what
 
-pub stop-star : {b : ℕ} → stops b ≡ true → b ≡ 42 → ⊥
+pub stop-star : {b : ℕ} → stops b ≡ true → b ≡ code "*" → ⊥
 unfolding stops
 stop-star h = other stops h refl
 
-pub bar-stops : {b : ℕ} → b ≡ 124 → stops b ≡ true
+pub bar-stops : {b : ℕ} → b ≡ code "|" → stops b ≡ true
 unfolding stops
 bar-stops h = rw h refl
 
@@ -45,7 +46,7 @@ pub record BeginsWith (lo l : Level) (s : List ℕ) (i : ℕ) (u : Tree) (j : �
   pub tail : Tail s l tree end u j
 
 module _ {s : List ℕ} where
-  then-star : {t u : Tree} {j k : ℕ} → Tail s factors t j u k → byte s k ≡ 42 → Tail s factors t j (starred u) (k + 1)
+  then-star : {t u : Tree} {j k : ℕ} → Tail s factors t j u k → byte s k ≡ code "*" → Tail s factors t j (starred u) (k + 1)
   then-star done h = a-star h done
   then-star (a-star g r) h = a-star g (then-star r h)
 
@@ -53,7 +54,7 @@ module _ {s : List ℕ} where
   then-factor done h = a-factor h done
   then-factor (a-factor g r) h = a-factor g (then-factor r h)
 
-  then-branch : {t u f : Tree} {j k m : ℕ} → Tail s exprs t j u k → byte s k ≡ 124 → WholeLevel branches s (k + 1) m f → Tail s exprs t j (either u f) m
+  then-branch : {t u f : Tree} {j k m : ℕ} → Tail s exprs t j u k → byte s k ≡ code "|" → WholeLevel branches s (k + 1) m f → Tail s exprs t j (either u f) m
   then-branch done e h = a-branch e h done
   then-branch (a-branch b g r) e h = a-branch b g (then-branch r e h)
 
@@ -61,7 +62,7 @@ module _ {s : List ℕ} where
   first-factor (one-atom r) = record { end = _; tree = _; head = (r, tt); tail = done }
   first-factor (one-star r h) = let a = first-factor r in record { end = a .end; tree = a .tree; head = a .head; tail = then-star (a .tail) h }
 
-  factors-of : {i j : ℕ} {t : Tree} → Reads s branches i j t → (byte s j ≡ 42 → ⊥) → BeginsWith factors branches s i t j
+  factors-of : {i j : ℕ} {t : Tree} → Reads s branches i j t → (byte s j ≡ code "*" → ⊥) → BeginsWith factors branches s i t j
   factors-of (one-factor r) e = record { end = _; tree = _; head = (r, e); tail = done }
   factors-of (next-factor r q) e = let a = factors-of r (not-star q) in record { end = a .end; tree = a .tree; head = a .head; tail = then-factor (a .tail) (q, e) }
 

@@ -6,6 +6,7 @@
 --   going, going-small, going-found: what there is after some turns; its count; what it is when none is left
 --   factor-ready, factor-turn: one more factor; branch-ready, branch-turn: one more branch
 use Prim.Native.Nat.{ℕ, _+_, _<_, _≤_}
+use Prim.Native.Char.{code}
 use mathlib.Core.Path.{_≡_, refl, sym, _∙_}
 use mathlib.Core.Bool.{Bool, true, false, not, false≢true}
 use mathlib.Core.List.{List}
@@ -56,12 +57,12 @@ module _ {s : List ℕ} where
   factor-last done e = (refl, refl)
   factor-last (a-factor g r) e = absurd (not-stop (g .0) e)
 
-  branch-next : {n j : ℕ} {t u : Tree} → Tail s exprs t n u j → EndsLevel exprs (byte s j) → byte s n ≡ 124 → NextTurn branches exprs either s (n + 1) t u j
+  branch-next : {n j : ℕ} {t u : Tree} → Tail s exprs t n u j → EndsLevel exprs (byte s j) → byte s n ≡ code "|" → NextTurn branches exprs either s (n + 1) t u j
   unfolding closesExpr
   branch-next done e h = absurd (other closesExpr e refl h)
   branch-next (a-branch b g r) e h = record { end = _; tree = _; whole = g; tail = r }
 
-  pub branch-last : {n j : ℕ} {t u : Tree} → Tail s exprs t n u j → (byte s n ≡ 124 → ⊥) → (n ≡ j) × (t ≡ u)
+  pub branch-last : {n j : ℕ} {t u : Tree} → Tail s exprs t n u j → (byte s n ≡ code "|" → ⊥) → (n ≡ j) × (t ≡ u)
   branch-last done e = (refl, refl)
   branch-last (a-branch b g r) e = absurd (e b)
 
@@ -108,7 +109,7 @@ module _ {s : List ℕ} where
     factor-ready h = let x = factor-next (q .tail) (p .whole .1) h in ready factors (p .short) (x .whole) (omega (arith, q .right .counts, tail-size (x .tail), p .brief))
 
   module _ {k i : ℕ} {y y′ w w′ : List ℕ} {g : Fragment} (p : Readable exprs k s i) (q : Going exprs s k y y′ w w′ g (p .tree) (p .end)) where
-    pub branch-ready : byte s (g .next) ≡ 124 → Readable branches (g .count) s (g .next + 1)
+    pub branch-ready : byte s (g .next) ≡ code "|" → Readable branches (g .count) s (g .next + 1)
     unfolding expr
     branch-ready h = let x = branch-next (q .tail) (p .whole .1) h in ready branches (p .short) (x .whole) (omega (arith, q .right .counts, tail-size (x .tail), p .brief))
 
@@ -123,7 +124,7 @@ module _ {s : List ℕ} where
           record { tree = beside (q .tree) (x .tree); right = right-beside (q .right) (f .right) l m; tail = rw (m .nexts ∙ f .next) (x .tail) };
     }
 
-    pub branch-turn : byte s (g .next) ≡ 124 → Answer branches s (g .next + 1) (g .count) y y′ w w′ h → Either g h r → Carried exprs s y w g y′ w′ r
+    pub branch-turn : byte s (g .next) ≡ code "|" → Answer branches s (g .next + 1) (g .count) y y′ w w′ h → Either g h r → Carried exprs s y w g y′ w′ r
     unfolding expr
     branch-turn n a m = record {
       says = λ k y₀ w₀ u j e q.

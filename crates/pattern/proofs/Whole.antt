@@ -13,7 +13,7 @@ use lib.ListN.{length, length-append, List·getD-eq-default}
 use Rattle.scope.specs.Positions.Bits.{has, follow, holders}
 use Rattle.scope.specs.Text.Grammar.{exprs}
 use Rattle.scope.specs.Text.Judge.{Pattern}
-use Rattle.scope.specs.Limits.{setWords}
+use Rattle.scope.specs.Limits.{byteValues, setWords}
 use Rattle.scope.specs.Text.Re.{size}
 use Rattle.scope.specs.Text.Tree.{Tree, nothing, empty, position, group, starred, beside, either, expr, places}
 use Rattle.scope.proofs.Positions.Bits.{has-zero}
@@ -40,7 +40,7 @@ places-size (either t u) = simp length-append (omega (arith, places-size t, plac
 
 whole : (s : List ℕ) (t : Tree) → Pattern s t → WholeLevel exprs s 0 (length s) t
 unfolding closesExpr
-whole s t r = (r, rw (List·getD-eq-default s 256 {n = length s} (omega arith)) refl)
+whole s t r = (r, rw (List·getD-eq-default s byteValues {n = length s} (omega arith)) refl)
 
 pub ready-text : {s : List ℕ} → Faultless s → Readable exprs 0 s 0
 ready-text {s} p = ready exprs (p .short) (whole s (p .tree) (p .sized .pattern)) (omega (arith, places-size (p .tree), p .sized .brief))

@@ -23,13 +23,7 @@ use leaves::text::byte_at;
 fn goes_on(b: usize) -> bool
     ensures { λ r. ⌜ r ≡ not (stops b) ⌝ }
 {
-    if b == CLOSE {
-        return false;
-    }
-    if b == END {
-        return false;
-    }
-    b != BAR
+    !((b == CLOSE) | (b == END) | (b == BAR))
 }
 
 // An atom: an expression in parentheses, or a leaf.

@@ -41,11 +41,15 @@ fn remainder(s: Set) -> usize
     r
 }
 
-// The first of the n reached sets that is s, n if none is.
-fn find(words: &[u64], n: usize, s: Set) -> usize
+// The first of the n reached sets that is s, n if none is. Where there is no guess for its remainder, none has it.
+fn find(words: &[u64], n: usize, guess: u16, s: Set) -> usize
     requires { ⌜ (n ≤ stateLimit) × ((setsAt + stateLimit) * setWords ≤ length (now words)) ⌝ }
+    requires { ⌜ (guess ≡ noGuess → (i : ℕ) → i < n → Is (now words) (setValue (s .words)) i → ⊥) ⌝ }
     ensures { λ r. ⌜ Found (Is (now (words .entry)) (setValue (s .words))) n r ⌝ }
 {
+    if guess == NO_GUESS {
+        return n;
+    }
     let mut i: usize = 0;
     while i < n {
         if s.same(sets::load(words, SETS_AT + i)) {
@@ -67,19 +71,6 @@ fn is_at(words: &[u64], n: usize, i: usize, s: Set) -> bool
     false
 }
 
-// The first of the n reached sets that is s, n if none is. Where there is no guess for its remainder, none has it.
-fn search(words: &[u64], n: usize, guess: u16, s: Set) -> usize
-    requires { ⌜ (n ≤ stateLimit) × ((setsAt + stateLimit) * setWords ≤ length (now words)) ⌝ }
-    requires { ⌜ (guess ≡ noGuess → (i : ℕ) → i < n → Is (now words) (setValue (s .words)) i → ⊥) ⌝ }
-    ensures { λ r. ⌜ Found (Is (now (words .entry)) (setValue (s .words))) n r ⌝ }
-{
-    if guess == NO_GUESS {
-        n
-    } else {
-        find(words, n, s)
-    }
-}
-
 // The number of s among the n reached sets: the one that is guessed, if it is that, or else the first that is found. Where it is new and there is room, it is stored
 // after them.
 pub fn seat(words: &mut [u64], guesses: &mut [u16], n: usize, s: Set) -> usize
@@ -92,7 +83,7 @@ pub fn seat(words: &mut [u64], guesses: &mut [u16], n: usize, s: Set) -> usize
     if is_at(words, n, guess as usize, s) {
         return guess as usize;
     }
-    let i = search(words, n, guess, s);
+    let i = find(words, n, guess, s);
     guesses[at] = i as u16;
     if i == n {
         if n < Machine::STATES {

@@ -17,7 +17,7 @@ array-share-prefix-right : tie.Need-array-share-prefix-right
 array-share-prefix-right c = omega (arith, lines-short (c .before .before .before .before .take-lines .ensures .0))
 
 slice-aggregate-report-2 : tie.Need-slice-aggregate-report-2
-slice-aggregate-report-2 c = sym (length-take-le _ _ (omega (arith, lines-short (c .before .before .before .before .before .take-lines .ensures .0), c .before .before .before .before .before .take-lines .ensures .0 .right-long)))
+slice-aggregate-report-2 c = let t = c .before .before .before .before .before in sym (length-take-le _ _ (omega (arith, lines-short (t .take-lines .ensures .0), t .take-lines .ensures .0 .right-long)))
 
 slice-aggregate-write-all : tie.Need-slice-aggregate-write-all
 slice-aggregate-write-all c = sym (length-take-le _ _ (reports-fit (c .before .before .report .ensures .0)))

@@ -23,16 +23,16 @@ returns : tie.Need-returns Inv-loop μ-loop
 returns c = (lines-more (c .before .before .before .before .before .before .before .before .before .before .before .before .before .before .before .loop .inv .0) (c .before .before .before .before .before .take-block .ensures), nothing-came (omega (arith, c .if1 .taken)))
 
 returns-2 : tie.Need-returns-2 Inv-loop μ-loop
-returns-2 c = (lines-more (c .before .before .before .before .before .before .before .before .before .before .before .before .before .before .before .before .before .loop .inv .0) (c .before .before .before .before .before .before .before .take-block .ensures), both-ended (omega (arith, c .if2 .taken)))
+returns-2 c = let t = c .before .before .before .before .before .before .before in (lines-more (t .before .before .before .before .before .before .before .before .before .before .loop .inv .0) (t .take-block .ensures), both-ended (omega (arith, c .if2 .taken)))
 
 returns-3 : tie.Need-returns-3 Inv-loop μ-loop
-returns-3 c = (lines-more (c .before .before .before .before .before .before .before .before .before .before .before .before .before .before .before .before .before .before .loop .inv .0) (c .before .before .before .before .before .before .before .before .take-block .ensures), most-read (omega (arith, c .if3 .taken)))
+returns-3 c = let t = c .before .before .before .before .before .before .before .before in (lines-more (t .before .before .before .before .before .before .before .before .before .before .loop .inv .0) (t .take-block .ensures), most-read (omega (arith, c .if3 .taken)))
 
 loop-less : tie.Need-loop-less Inv-loop μ-loop
 loop-less c = omega (arith, c .before .before .before .before .before .before .before .before .before .before .before .before .before .before .before .before .before .before .loop .inv .1)
 
 loop-again : tie.Need-loop-again Inv-loop μ-loop
-loop-again c = (lines-more (c .before .before .before .before .before .before .before .before .before .before .before .before .before .before .before .before .before .before .loop .inv .0) (c .before .before .before .before .before .before .before .before .take-block .ensures), omega (arith, c .before .before .before .before .before .before .before .before .before .before .before .before .before .before .before .before .before .before .loop .inv .1, c .if3 .left))
+loop-again c = let t = c .before .before .before .before .before .before .before .before in let l = t .before .before .before .before .before .before .before .before .before .before in (lines-more (l .loop .inv .0) (t .take-block .ensures), omega (arith, l .loop .inv .1, c .if3 .left))
 
 pub take-lines-spec : {M : Type 1} → statement M
 take-lines-spec =

@@ -10,16 +10,16 @@ use Rattle.alike_report.proofs.put.Statement.{statement}
 use Rattle.alike_report.proofs.put.Tie as tie
 
 slice-reshare-prefix-print-lines : tie.Need-slice-reshare-prefix-print-lines
-slice-reshare-prefix-print-lines c = omega (arith, compares-fits (c .before .before .before .before .before .before .before .before .before .before .compare .ensures), c .before .length .ensures, c .before .before .before .before .before .before .before .before .before .before .before .before .before .before .before .before .before .before .before .before .pre .1 .word-long)
+slice-reshare-prefix-print-lines c = let t = c .before .before .before .before .before .before .before .before .before .before in omega (arith, compares-fits (t .compare .ensures), c .before .length .ensures, t .before .before .before .before .before .before .before .before .before .before .pre .1 .word-long)
 
 slice-aggregate-print-lines : tie.Need-slice-aggregate-print-lines
-slice-aggregate-print-lines c = sym (length-take-le _ _ (omega (arith, compares-fits (c .before .before .before .before .before .before .before .before .before .before .before .compare .ensures), c .before .before .length .ensures, c .before .before .before .before .before .before .before .before .before .before .before .before .before .before .before .before .before .before .before .before .before .pre .1 .word-long)))
+slice-aggregate-print-lines c = let t = c .before .before .before .before .before .before .before .before .before .before .before in sym (length-take-le _ _ (omega (arith, compares-fits (t .compare .ensures), c .before .before .length .ensures, t .before .before .before .before .before .before .before .before .before .before .pre .1 .word-long)))
 
 print-lines-requires : tie.Need-print-lines-requires
-print-lines-requires c κs = (c .before .before .before .before .before .before .before .before .before .before .before .before .before .before .before .before .before .before .before .before .before .pre .0, short (c .before .before .before .before .before .before .before .before .before .before .before .compare .ensures) (c .before .before .length .ensures))
+print-lines-requires c κs = let t = c .before .before .before .before .before .before .before .before .before .before .before in (t .before .before .before .before .before .before .before .before .before .before .pre .0, short (t .compare .ensures) (c .before .before .length .ensures))
 
 returns : tie.Need-returns
-returns c = (puts (comparing-as (c .before .before .before .before .before .before .before .before .before .before .before .before .before .before .before .before .before .before .before .before .before .before .before .before .pre .1) (c .before .before .before .before .before .before .before .before .before .before .before .before .before .before .compare .ensures) (c .before .before .before .before .before .before .before .number .ensures) (c .before .before .before .before .before .length .ensures) (c .before .before .before .before .before .before .rounds .ensures)) (c .before .before .print-lines .ensures .0), c .before .before .print-lines .ensures .1)
+returns c = let p = c .before .before in let l = p .before .before .before in let t = l .before .before .before .before .before .before .before .before .before in (puts (comparing-as (t .before .before .before .before .before .before .before .before .before .before .pre .1) (t .compare .ensures) (l .before .before .number .ensures) (l .length .ensures) (l .before .rounds .ensures)) (p .print-lines .ensures .0), p .print-lines .ensures .1)
 
 pub put-spec : {M : Type 1} → statement M
 put-spec =

@@ -5,7 +5,7 @@ use Rattle.alike_report.proofs.report.Statement.{statement}
 use Rattle.alike_report.proofs.report.Tie as tie
 
 returns : tie.Need-returns
-returns c = (reports (c .before .before .before .before .before .before .before .before .before .before .before .before .before .before .before .before .before .before .before .before .before .before .side .ensures) (c .before .before .before .before .before .before .before .before .before .before .before .before .before .before .before .side2 .ensures) (c .before .before .before .before .before .put .ensures .0), c .before .before .before .before .before .put .ensures .1)
+returns c = let p = c .before .before .before .before .before in let s = p .before .before .before .before .before .before .before .before .before .before in (reports (s .before .before .before .before .before .before .before .side .ensures) (s .side2 .ensures) (p .put .ensures .0), p .put .ensures .1)
 
 pub report-spec : {M : Type 1} → statement M
 report-spec =

@@ -46,7 +46,7 @@ add-q : tie.Need-add-q Inv-loop μ-loop
 add-q c = search needs
 
 loop-less : tie.Need-loop-less Inv-loop μ-loop
-loop-less c = omega (arith, swept-few (c .before .before .before .before .before .before .before .pre .sound) (c .before .before .before .before .loop .inv .1), c .before .before .before .before .before .before .before .pre .sound .few-states, c .before .before .before .loop-test .taken)
+loop-less c = let s = c .before .before .before .before .before .before .before in omega (arith, swept-few (s .pre .sound) (c .before .before .before .before .loop .inv .1), s .pre .sound .few-states, c .before .before .before .loop-test .taken)
 
 loop-again : tie.Need-loop-again Inv-loop μ-loop
 loop-again c = (omega (arith, c .sweep .ensures .0), c .sweep .ensures .1)

@@ -49,7 +49,7 @@ add-t-2 : tie.Need-add-t-2 Inv-loop μ-loop
 add-t-2 c = let p = row-place (c .before .before .before .before .before .before .pre .0) (c .before .before .loop .inv) (c .before .loop-test .taken) in omega arith
 
 shared-slice-read-t : tie.Need-shared-slice-read-t Inv-loop μ-loop
-shared-slice-read-t c = let p = row-place (c .before .before .before .before .before .before .before .pre .0) (c .before .before .before .loop .inv) (c .before .before .loop-test .taken) in omega (arith, c .before .before .before .before .before .before .before .pre .0 .sound .long)
+shared-slice-read-t c = let s = c .before .before .before .before .before .before .before in let p = row-place (s .pre .0) (c .before .before .before .loop .inv) (c .before .before .loop-test .taken) in omega (arith, s .pre .0 .sound .long)
 
 cast-t-2 : tie.Need-cast-t-2 Inv-loop μ-loop
 cast-t-2 c = let p = row-place (c .before .before .before .before .before .before .before .pre .0) (c .before .before .before .loop .inv) (c .before .before .loop-test .taken) in omega arith
@@ -70,25 +70,25 @@ element-copy-out-if1 : tie.Need-element-copy-out-if1 Inv-loop μ-loop
 element-copy-out-if1 c = let p = row-place (c .before .before .before .before .before .before .before .before .pre .0) (c .before .before .before .before .loop .inv) (c .before .before .before .loop-test .taken) in omega arith
 
 cast-if1 : tie.Need-cast-if1 Inv-loop μ-loop
-cast-if1 c = let p = row-place (c .before .before .before .before .before .before .before .before .before .pre .0) (c .before .before .before .before .before .loop .inv) (c .before .before .before .before .loop-test .taken) in omega arith
+cast-if1 c = let l = c .before .before .before .before in let p = row-place (l .before .before .before .before .before .pre .0) (l .before .loop .inv) (l .loop-test .taken) in omega arith
 
 cast-order : tie.Need-cast-order Inv-loop μ-loop
-cast-order c = let p = row-place (c .before .before .before .before .before .before .before .before .before .before .pre .0) (c .before .before .before .before .before .before .loop .inv) (c .before .before .before .before .before .loop-test .taken) in omega arith
+cast-order c = let l = c .before .before .before .before .before in let p = row-place (l .before .before .before .before .before .pre .0) (l .before .loop .inv) (l .loop-test .taken) in omega arith
 
 element-write-order : tie.Need-element-write-order Inv-loop μ-loop
-element-write-order c = row-fewer (c .before .before .before .before .before .before .before .before .before .before .pre .0) (c .before .before .before .before .before .before .loop .inv) (c .before .before .before .before .before .loop-test .taken) (c .if1 .taken)
+element-write-order c = let l = c .before .before .before .before .before in row-fewer (l .before .before .before .before .before .pre .0) (l .before .loop .inv) (l .loop-test .taken) (c .if1 .taken)
 
 cast-number : tie.Need-cast-number Inv-loop μ-loop
-cast-number c = omega (arith, row-fewer (c .before .before .before .before .before .before .before .before .before .before .pre .0) (c .before .before .before .before .before .before .loop .inv) (c .before .before .before .before .before .loop-test .taken) (c .if1 .taken))
+cast-number c = let l = c .before .before .before .before .before in omega (arith, row-fewer (l .before .before .before .before .before .pre .0) (l .before .loop .inv) (l .loop-test .taken) (c .if1 .taken))
 
 mul-number : tie.Need-mul-number Inv-loop μ-loop
-mul-number c = let p = row-place (c .before .before .before .before .before .before .before .before .before .before .pre .0) (c .before .before .before .before .before .before .loop .inv) (c .before .before .before .before .before .loop-test .taken) in omega arith
+mul-number c = let l = c .before .before .before .before .before in let p = row-place (l .before .before .before .before .before .pre .0) (l .before .loop .inv) (l .loop-test .taken) in omega arith
 
 element-write-number : tie.Need-element-write-number Inv-loop μ-loop
-element-write-number c = let p = row-place (c .before .before .before .before .before .before .before .before .before .before .pre .0) (c .before .before .before .before .before .before .loop .inv) (c .before .before .before .before .before .loop-test .taken) in omega arith
+element-write-number c = let l = c .before .before .before .before .before in let p = row-place (l .before .before .before .before .before .pre .0) (l .before .loop .inv) (l .loop-test .taken) in omega arith
 
 add-count : tie.Need-add-count Inv-loop μ-loop
-add-count c = omega (arith, row-fewer (c .before .before .before .before .before .before .before .before .before .before .pre .0) (c .before .before .before .before .before .before .loop .inv) (c .before .before .before .before .before .loop-test .taken) (c .if1 .taken))
+add-count c = let l = c .before .before .before .before .before in omega (arith, row-fewer (l .before .before .before .before .before .pre .0) (l .before .loop .inv) (l .loop-test .taken) (c .if1 .taken))
 
 add-i : tie.Need-add-i Inv-loop μ-loop
 add-i c = search needs
@@ -97,7 +97,7 @@ loop-less : tie.Need-loop-less Inv-loop μ-loop
 loop-less c = search needs
 
 loop-again : tie.Need-loop-again Inv-loop μ-loop
-loop-again c = ⊎-elim (λ w. rw (w .1, w .2, w .3) (row-new (c .before .before .before .before .before .before .before .before .before .before .pre .0) (c .before .before .before .before .before .before .loop .inv) (c .before .before .before .before .before .loop-test .taken) (w .0 .taken))) (λ w. rw (w .1, w .2, w .3) (row-old (c .before .before .before .before .before .before .before .before .before .before .pre .0) (c .before .before .before .before .before .before .loop .inv) (c .before .before .before .before .before .loop-test .taken) (w .0 .left))) (c .if1 .came)
+loop-again c = let l = c .before .before .before .before .before in let s = l .before .before .before .before .before in ⊎-elim (λ w. rw (w .1, w .2, w .3) (row-new (s .pre .0) (l .before .loop .inv) (l .loop-test .taken) (w .0 .taken))) (λ w. rw (w .1, w .2, w .3) (row-old (s .pre .0) (l .before .loop .inv) (l .loop-test .taken) (w .0 .left))) (c .if1 .came)
 
 returns : tie.Need-returns Inv-loop μ-loop
 returns c = let r = c .before .loop .inv in (r .in-rows, row-end (c .before .before .before .before .before .pre .0) r (omega (arith, r .in-row)))

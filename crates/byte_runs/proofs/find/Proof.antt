@@ -19,10 +19,10 @@ loop-holds : tie.Need-loop-holds Inv-loop μ-loop
 loop-holds c = (search needs, quiet-none (c .before .args .bytes .now) (replicate byteSet 0))
 
 loop-again : tie.Need-loop-again Inv-loop μ-loop
-loop-again c = (search needs, quiet-more (c .before .before .before .before .args .bytes .now) (c .before .before .loop .p) (c .before .before .loop .ends) (c .note .result) (c .before .before .loop .inv .1) (c .note .ensures))
+loop-again c = let l = c .before .before in (search needs, quiet-more (l .before .before .args .bytes .now) (l .loop .p) (l .loop .ends) (c .note .result) (l .loop .inv .1) (c .note .ensures))
 
 returns : tie.Need-returns Inv-loop μ-loop
-returns c = let e : c .before .before .loop .p ≡ c .before .before .before .before .args .count = omega arith in quiet-runs (c .before .before .before .before .args .bytes .now) _ (c .before .before .loop .ends) _ _ (rw e at (c .before .before .loop .inv .1)) (c .list .ensures)
+returns c = let l = c .before .before in let e : l .loop .p ≡ l .before .before .args .count = omega arith in quiet-runs (l .before .before .args .bytes .now) _ (l .loop .ends) _ _ (rw e at (l .loop .inv .1)) (c .list .ensures)
 
 pub find-spec : {M : Type 1} → statement M
 find-spec =

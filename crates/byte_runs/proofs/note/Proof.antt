@@ -20,7 +20,7 @@ add-noted : tie.Need-add-noted Inv-loop μ-loop
 add-noted c = omega (arith, c .before .shared-slice-known .given (c .before .before .before .before .args .p * byteSet + c .before .before .before .loop .g))
 
 loop-again : tie.Need-loop-again Inv-loop μ-loop
-loop-again c = (search needs, noting-more (c .before .before .before .loop .inv .1) (c .before .before .loop-test .taken) (omega (arith, c .before .shared-slice-known .given (c .before .before .before .before .args .p * byteSet + c .before .before .before .loop .g))))
+loop-again c = let l = c .before .before .before in (search needs, noting-more (l .loop .inv .1) (c .before .before .loop-test .taken) (omega (arith, c .before .shared-slice-known .given (l .before .args .p * byteSet + l .loop .g))))
 
 returns : tie.Need-returns Inv-loop μ-loop
 returns c = noting-all (c .loop-test .left) (c .before .loop .inv .1)

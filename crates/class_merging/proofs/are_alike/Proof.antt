@@ -80,13 +80,13 @@ element-copy-out-if1-2 c =
 
 returns : tie.Need-returns Inv-loop μ-loop
 returns c =
-    let l = c .before .before .before .before .before .before .before in
-    fails (λ f. c .if1 .taken (rw (c .before .before .before .before .before .before .before .before .head .ensures .1) (f (l .loop .q) (c .before .before .before .before .before .before .loop-test .taken))))
+    let t = c .before .before .before .before .before .before in let l = t .before in
+    fails (λ f. c .if1 .taken (rw (t .before .before .head .ensures .1) (f (l .loop .q) (t .loop-test .taken))))
 
 loop-again : tie.Need-loop-again Inv-loop μ-loop
-loop-again c = (
+loop-again c = let l = c .before .before .before .before .before .before .before in (
   search needs,
-  below-more _ _ (c .before .before .before .before .before .before .before .loop .inv .1) (rw (c .before .before .before .before .before .before .before .before .head .ensures .1) at (c .if1 .left)),
+  below-more _ _ (l .loop .inv .1) (rw (l .before .head .ensures .1) at (c .if1 .left)),
 )
 
 returns-2 : tie.Need-returns-2 Inv-loop μ-loop

@@ -22,7 +22,7 @@ element-copy-out-are-alike : tie.Need-element-copy-out-are-alike Inv-loop μ-loo
 element-copy-out-are-alike c = omega (arith, c .before .before .before .pre .1 .0, c .loop-test .taken)
 
 are-alike-requires : tie.Need-are-alike-requires Inv-loop μ-loop
-are-alike-requires c κs = (c .before .before .before .before .pre .0, (c .before .before .before .before .pre .1 .1 (c .before .before .loop .c) (c .before .loop-test .taken) (omega arith), c .before .before .before .before .pre .1 .2))
+are-alike-requires c κs = let s = c .before .before .before .before in (s .pre .0, (s .pre .1 .1 (c .before .before .loop .c) (c .before .loop-test .taken) (omega arith), s .pre .1 .2))
 
 returns : tie.Need-returns Inv-loop μ-loop
 returns c = found-here (search needs) (c .before .are-alike .ensures .yes (c .if1 .taken)) (c .before .before .before .before .loop .inv .1)

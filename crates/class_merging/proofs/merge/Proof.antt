@@ -33,9 +33,9 @@ few c = let g = c .before .before .before .pre in omega (arith, merged-few (c .b
 
 find-requires : tie.Need-find-requires Inv-loop μ-loop
 find-requires c κs =
-    let v = c .before .before .before .loop .inv in
-    let b = c .before .before .before .before .before .pre .1 in
-    (c .before .before .before .before .before .pre .0, (omega (arith, few (c .before .before)), merged-inside (v .1) (v .0) (b .1), b .1 (c .before .before .before .loop .j) (c .before .before .loop-test .taken) (omega arith)))
+    let l = c .before .before in let k = l .before in let v = k .loop .inv in
+    let b = k .before .before .pre .1 in
+    (k .before .before .pre .0, (omega (arith, few (l)), merged-inside (v .1) (v .0) (b .1), b .1 (k .loop .j) (l .loop-test .taken) (omega arith)))
 
 cast-sort : tie.Need-cast-sort Inv-loop μ-loop
 cast-sort c = omega (arith, c .find .ensures .most, few (c .before .before .before))
@@ -54,13 +54,13 @@ add-count c = omega (arith, few (c .before .before .before .before))
 
 loop-again : tie.Need-loop-again Inv-loop μ-loop
 loop-again c =
-    let m = c .before .before .before .before .before .loop .inv .1 in
+    let t = c .before .before .before .before in let k = t .before in let m = k .loop .inv .1 in
     let f = c .before .find .ensures in
-    let l = c .before .before .before .before .loop-test .taken in
-    let u = class (c .before .before .before .before) in
-    let d : Distinct (c .before .before .before .before .before .before .before .args .column .now) (c .before .before .before .before .before .loop .j + 1) = λ i j g. c .before .before .before .before .before .before .before .pre .1 .2 i j (omega (arith, g, l)) in (
+    let l = t .loop-test .taken in
+    let u = class (t) in
+    let d : Distinct (k .before .before .args .column .now) (k .loop .j + 1) = λ i j g. k .before .before .pre .1 .2 i j (omega (arith, g, l)) in (
       search needs,
-      ⊎-elim (λ w. rw (w .1, w .2) (merged-new u d m f (w .0 .taken) (omega (arith, few (c .before .before .before .before))))) (λ w. rw (w .1, w .2) (merged-old u d m f (omega (arith, f .most, w .0 .left)))) (c .if1 .came),
+      ⊎-elim (λ w. rw (w .1, w .2) (merged-new u d m f (w .0 .taken) (omega (arith, few (t))))) (λ w. rw (w .1, w .2) (merged-old u d m f (omega (arith, f .most, w .0 .left)))) (c .if1 .came),
     )
 
 returns : tie.Need-returns Inv-loop μ-loop

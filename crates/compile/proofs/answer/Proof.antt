@@ -10,7 +10,7 @@ returns : tie.Need-returns
 returns c = refused (λ b w k. too-long (c .before .before .before .before .before .pre) (omega (arith, c .if1 .taken)) k)
 
 build-requires : tie.Need-build-requires
-build-requires c κs = (told (record { lent = c .before .before .before .before .before .before .before .before .before .before .before .pre; short = omega (arith, c .before .before .before .before .before .before .if1 .left) }) (c .before .before .before .before .before .judge .ensures) (c .before .before .before .enum-told .given .1), c .before .before .before .before .before .before .before .before .before .before .before .pre)
+build-requires c κs = let j = c .before .before .before .before .before in let s = j .before .before .before .before .before .before in (told (record { lent = s .pre; short = omega (arith, j .before .if1 .left) }) (j .judge .ensures) (c .before .before .before .enum-told .given .1), s .pre)
 
 returns-3 : tie.Need-returns-3
 returns-3 c = told (record { lent = c .before .before .before .before .before .before .before .before .before .pre; short = omega (arith, c .before .before .before .before .if1 .left) }) (c .before .before .before .judge .ensures) (c .before .judged .given .1)

@@ -16,8 +16,8 @@ answer-requires : tie.Need-answer-requires
 answer-requires c κs = c .before .before .before .before .is-lent .ensures .yes (not-false _ (c .before .before .before .if1 .left))
 
 clear-requires : tie.Need-clear-requires
-clear-requires c κs = let lent = c .before .before .before .before .before .before .before .before .before .before .before .before .before .is-lent .ensures .yes (not-false _ (c .before .before .before .before .before .before .before .before .before .before .before .before .if1 .left)) in
-    record { bytes-long = omega (arith, lent .scratch .bytes-long, c .before .before .before .before .before .before .before .before .answer .ensures .bytes-kept .size); words-long = omega (arith, lent .scratch .words-long, c .before .before .before .before .before .before .before .before .answer .ensures .words-kept .size) }
+clear-requires c κs = let a = c .before .before .before .before .before .before .before .before in let lent = a .before .before .before .before .before .is-lent .ensures .yes (not-false _ (a .before .before .before .before .if1 .left)) in
+    record { bytes-long = omega (arith, lent .scratch .bytes-long, a .answer .ensures .bytes-kept .size); words-long = omega (arith, lent .scratch .words-long, a .answer .ensures .words-kept .size) }
 
 returns-2 : tie.Need-returns-2
 returns-2 c = let a = c .before .before .before .before .before .before .before .before .before .before .before .before .before .answer .ensures in

@@ -7,10 +7,10 @@ use Rattle.compile.proofs.read.Statement.{statement}
 use Rattle.compile.proofs.read.Tie as tie
 
 read-requires : tie.Need-read-requires
-read-requires c κs = (c .before .before .before .before .before .before .before .before .before .before .before .before .before .pre .0, (clear-filled byteSets (omega (arith, c .before .before .before .before .before .before .before .before .before .before .before .before .before .pre .1 .bytes-long)) (c .before .before .before .before .before .before .before .before .fill .ensures), clear-filled wordSets (omega (arith, c .before .before .before .before .before .before .before .before .before .before .before .before .before .pre .1 .words-long)) (c .before .before .before .before .fill-words .ensures)))
+read-requires c κs = let f = c .before .before .before .before in let s = f .before .before .before .before .before .before .before .before .before in (s .pre .0, (clear-filled byteSets (omega (arith, s .pre .1 .bytes-long)) (f .before .before .before .before .fill .ensures), clear-filled wordSets (omega (arith, s .pre .1 .words-long)) (f .fill-words .ensures)))
 
 returns : tie.Need-returns
-returns c = reads (c .before .before .before .before .before .before .before .before .before .before .before .before .before .before .before .before .before .before .before .before .before .before .before .pre .0) (c .before .before .before .before .before .before .before .before .before .before .before .before .before .before .before .before .before .before .fill .ensures) (c .before .before .before .before .before .before .before .before .before .before .before .before .before .before .fill-words .ensures) (c .before .before .before .before .before .before .before .before .before .read .ensures) (c .before .before .store .ensures)
+returns c = let r = c .before .before .before .before .before .before .before .before .before in let f = r .before .before .before .before .before in reads (f .before .before .before .before .before .before .before .before .before .pre .0) (f .before .before .before .before .fill .ensures) (f .fill-words .ensures) (r .read .ensures) (c .before .before .store .ensures)
 
 pub read-spec : {M : Type 1} → statement M
 read-spec =

@@ -30,17 +30,17 @@ slice-write-form : tie.Need-slice-write-form
 slice-write-form c = omega (arith, c .before .before .before .is-lent .ensures .yes (not-false _ (c .before .before .if3 .left)) .form-long)
 
 fill-requires : tie.Need-fill-requires
-fill-requires c κs = (omega arith, omega (arith, c .before .before .before .before .is-lent .ensures .yes (not-false _ (c .before .before .before .if3 .left)) .form-long, length-set (c .before .before .before .before .before .before .before .before .before .before .args .form .now) 0 (c .before .before .before .before .before .before .before .before .before .before .args .count)))
+fill-requires c κs = let s = c .before .before .before .before .before .before .before .before .before .before in (omega arith, omega (arith, c .before .before .before .before .is-lent .ensures .yes (not-false _ (c .before .before .before .if3 .left)) .form-long, length-set (s .args .form .now) 0 (s .args .count)))
 
 same-length-3 : tie.Need-same-length-3
 same-length-3 c = let a = c .before .before .before .before .before .before .before .before .before .before .before .before .before .args in c .before .before .fill .ensures .size ∙ length-set (a .form .now) 0 (a .count)
 
 returns-5 : tie.Need-returns-5
 returns-5 c =
-    let a = c .before .before .before .before .before .before .before .before .before .before .before .before .before .args in
-    let l = c .before .before .before .before .before .before .before .is-lent .ensures .yes (not-false _ (c .before .before .before .before .before .before .if3 .left)) in
-    opened (record { some = omega (arith, c .before .before .before .before .before .before .before .before .before .before .if1 .left); few = omega (arith, c .before .before .before .before .before .before .before .before .before .if2 .left) }) l
-    (λ f h. c .before .before .before .before .before .are-sound .ensures .yes (not-false _ (c .before .before .before .before .if4 .left)) f h (omega arith)) (zeros-shown (a .count) (a .form .now) (c .before .before .fill .ensures) (l .form-long)) (zeros-tail (a .count) (a .form .now) (c .before .before .fill .ensures))
+    let t = c .before .before in let u = t .before .before .before in let i = u .before .before .before .before in let a = i .before .before .before .before .args in
+    let l = u .before .before .is-lent .ensures .yes (not-false _ (u .before .if3 .left)) in
+    opened (record { some = omega (arith, i .before .if1 .left); few = omega (arith, i .if2 .left) }) l
+    (λ f h. u .are-sound .ensures .yes (not-false _ (t .before .before .if4 .left)) f h (omega arith)) (zeros-shown (a .count) (a .form .now) (t .fill .ensures) (l .form-long)) (zeros-tail (a .count) (a .form .now) (t .fill .ensures))
 
 pub open-form-spec : {M : Type 1} → statement M
 open-form-spec =

@@ -25,10 +25,10 @@ link-requires : tie.Need-link-requires Inv-loop μ-loop
 link-requires c κs = let f = c .before .before .before .loop .inv .2 in ((f .few, f .words), f .within)
 
 loop-less : tie.Need-loop-less Inv-loop μ-loop
-loop-less c = omega (arith, inside (c .before .before .before .before .before .before .before .before .before .before .before .args .text .now) (c .before .before .before .before .before .before .before .before .loop .all .next) (λ e. omega arith), c .moved .ensures .nexts)
+loop-less c = let l = c .before .before .before .before .before .before .before .before in omega (arith, inside (l .before .before .before .args .text .now) (l .loop .all .next) (λ e. omega arith), c .moved .ensures .nexts)
 
 loop-again : tie.Need-loop-again Inv-loop μ-loop
-loop-again c = let l = c .before .before .before .before .before .before .before .before .loop in let i = inside (c .before .before .before .before .before .before .before .before .before .before .before .args .text .now) (l .all .next) (λ e. omega arith) in (omega (arith, c .moved .ensures .nexts), search needs, star-fit (l .inv .2) i (search needs) (c .moved .ensures), λ y. carried-more (l .inv .3 y) (star-turn (c .before .before .before .before .before .before .before .byte-at .ensures .0) (c .before .before .before .before .before .before .if1 .taken) (c .before .before .before .before .link .ensures) (c .moved .ensures) y))
+loop-again c = let t = c .before .before .before .before .before .before in let l = t .before .before .loop in let i = inside (t .before .before .before .before .before .args .text .now) (l .all .next) (λ e. omega arith) in (omega (arith, c .moved .ensures .nexts), search needs, star-fit (l .inv .2) i (search needs) (c .moved .ensures), λ y. carried-more (l .inv .3 y) (star-turn (t .before .byte-at .ensures .0) (t .if1 .taken) (c .before .before .before .before .link .ensures) (c .moved .ensures) y))
 
 returns : tie.Need-returns Inv-loop μ-loop
 returns c = let l = c .before .before .loop in record { on = l .inv .0; inside = l .inv .2 .inside; ends = λ e. c .if1 .left (c .before .byte-at .ensures .0 ∙ e); says = l .inv .3 }

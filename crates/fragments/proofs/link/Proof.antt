@@ -21,7 +21,7 @@ loop-holds : tie.Need-loop-holds Inv-loop μ-loop
 loop-holds c = (search needs, refl, link-none _ _ _)
 
 loop-again : tie.Need-loop-again Inv-loop μ-loop
-loop-again c = (search needs, search needs, link-more (c .before .before .before .before .before .before .before .before .before .before .loop .inv .2) (omega arith) (c .before .before .before .before .joined .ensures ∙ ap₂ bitOr (c .before .before .before .before .before .before .before .load .ensures) (c .before .before .before .before .before .given .ensures ∙ ap (λ b. given b (setValue (c .before .before .before .before .before .before .before .before .before .before .before .before .args .first .words))) (c .before .before .before .before .before .before .has .ensures))) (c .before .before .store .ensures))
+loop-again c = let j = c .before .before .before .before in (search needs, search needs, link-more (j .before .before .before .before .before .before .loop .inv .2) (omega arith) (j .joined .ensures ∙ ap₂ bitOr (j .before .before .before .load .ensures) (j .before .given .ensures ∙ ap (λ b. given b (setValue (j .before .before .before .before .before .before .before .before .args .first .words))) (j .before .before .has .ensures))) (c .before .before .store .ensures))
 
 returns : tie.Need-returns Inv-loop μ-loop
 returns c = link-all (c .before .loop .inv .2) (omega arith) (c .before .before .before .pre .1)

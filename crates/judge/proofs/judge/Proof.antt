@@ -14,51 +14,33 @@ Inv-loop text x₀ place₀ x place = (place ≤ length text) × (x .deep ≤ pl
 abbrev μ-loop : tie.MeasureT-loop
 μ-loop text x₀ place₀ x place = length text - place
 
-new-requires : tie.Need-new-requires Inv-loop μ-loop
-new-requires c κs = search needs
-
 loop-holds : tie.Need-loop-holds Inv-loop μ-loop
 loop-holds c = (omega arith, omega arith, omega arith, omega arith, follows-first (c .new .ensures .0 .0) (c .new .ensures .0 .1) (c .new .ensures .0 .2) (c .new .ensures .1))
 
-shared-slice-read-advance : tie.Need-shared-slice-read-advance Inv-loop μ-loop
-shared-slice-read-advance c = search needs
-
-advance-requires : tie.Need-advance-requires Inv-loop μ-loop
-advance-requires c κs = search needs
-
 returns : tie.Need-returns Inv-loop μ-loop
-returns c = stops (c .before .before .before .before .before .before .before .before .args .text .now) (c .before .before .before .before .before .loop .place) (c .before .before .before .before .loop-test .taken) (c .before .before .before .before .before .loop .inv .4) (c .before .before .advance .ensures .0) (c .before .before .before .before .before .loop .inv .3) (c .if1 .taken)
-
-add-place : tie.Need-add-place Inv-loop μ-loop
-add-place c = search needs
-
-loop-less : tie.Need-loop-less Inv-loop μ-loop
-loop-less c = search needs
+returns c = let l = c .before .before .before .before .before in stops (l .before .before .before .args .text .now) (l .loop .place) (c .before .before .before .before .loop-test .taken) (l .loop .inv .4) (c .before .before .advance .ensures .0) (l .loop .inv .3) (c .if1 .taken)
 
 loop-again : tie.Need-loop-again Inv-loop μ-loop
 loop-again c =
-    let b = c .before .before .advance .ensures .1 in (
+    let a = c .before .before in let l = a .before .before .before in let b = a .advance .ensures .1 in (
       omega arith,
       omega (arith, b .deep-fits),
-      b .half-fits (c .before .before .before .before .before .loop .inv .2),
+      b .half-fits (l .loop .inv .2),
       omega arith,
-      follows-on (c .before .before .before .before .before .before .before .before .args .text .now) (c .before .before .before .before .before .loop .place) (c .before .before .before .before .loop-test .taken) (c .before .before .before .before .before .loop .inv .4) (c .before .before .advance .ensures .0) (omega arith),
+      follows-on (l .before .before .before .args .text .now) (l .loop .place) (a .before .before .loop-test .taken) (l .loop .inv .4) (a .advance .ensures .0) (omega arith),
     )
 
 returns-2 : tie.Need-returns-2 Inv-loop μ-loop
-returns-2 c = lacks (c .before .before .before .before .before .before .args .text .now) (c .before .before .before .loop .place) (omega arith) (c .before .before .before .loop .inv .4) (c .before .before .before .loop .inv .3) (λ d _ _. c .if2 .taken d)
+returns-2 c = let l = c .before .before .before in lacks (l .before .before .before .args .text .now) (l .loop .place) (omega arith) (l .loop .inv .4) (l .loop .inv .3) (λ d _ _. c .if2 .taken d)
 
 returns-3 : tie.Need-returns-3 Inv-loop μ-loop
-returns-3 c = lacks (c .before .before .before .before .before .before .before .before .args .text .now) (c .before .before .before .before .before .loop .place) (omega arith) (c .before .before .before .before .before .loop .inv .4) (c .before .before .before .before .before .loop .inv .3) (λ _ d _. c .if3 .taken d)
+returns-3 c = let l = c .before .before .before .before .before in lacks (l .before .before .before .args .text .now) (l .loop .place) (omega arith) (l .loop .inv .4) (l .loop .inv .3) (λ _ d _. c .if3 .taken d)
 
 returns-4 : tie.Need-returns-4 Inv-loop μ-loop
-returns-4 c = lacks (c .before .before .before .before .before .before .before .before .before .before .args .text .now) (c .before .before .before .before .before .before .before .loop .place) (omega arith) (c .before .before .before .before .before .before .before .loop .inv .4) (c .before .before .before .before .before .before .before .loop .inv .3) (λ _ _ d. c .if4 .taken d)
-
-first-fault-requires : tie.Need-first-fault-requires Inv-loop μ-loop
-first-fault-requires c κs = search needs
+returns-4 c = let l = c .before .before .before .before .before .before .before in lacks (l .before .before .before .args .text .now) (l .loop .place) (omega arith) (l .loop .inv .4) (l .loop .inv .3) (λ _ _ d. c .if4 .taken d)
 
 returns-5 : tie.Need-returns-5 Inv-loop μ-loop
-returns-5 c = ends (c .before .before .before .before .before .before .before .before .before .before .before .args .text .now) (c .before .before .before .before .before .before .before .before .loop .place) (omega arith) (c .before .before .before .before .before .before .before .before .loop .inv .4) (c .before .before .before .before .before .if2 .left) (c .before .before .before .if3 .left) (c .before .if4 .left) (c .first-fault .ensures)
+returns-5 c = let l = c .before .before .before .before .before .before .before .before in ends (l .before .before .before .args .text .now) (l .loop .place) (omega arith) (l .loop .inv .4) (c .before .before .before .before .before .if2 .left) (c .before .before .before .if3 .left) (c .before .if4 .left) (c .first-fault .ensures)
 
 pub judge-spec : {M : Type 1} → statement M
 judge-spec =
@@ -66,16 +48,16 @@ judge-spec =
     (tie.spec
     Inv-loop
     μ-loop
-    new-requires
+    (λ c κs. search needs)
     loop-holds
-    shared-slice-read-advance
-    advance-requires
+    (λ c. search needs)
+    (λ c κs. search needs)
     returns
-    add-place
-    loop-less
+    (λ c. search needs)
+    (λ c. search needs)
     loop-again
     returns-2
     returns-3
     returns-4
-    first-fault-requires
+    (λ c κs. search needs)
     returns-5)

@@ -19,6 +19,6 @@ after-back-spec =
     (λ c. let a = c .before .before .before .before .before .args in (back-empty (pieceOf (a .x .piece)) (a .b) (ap pieceOf (c .before .if3 .taken)) (inl (c .if4 .taken)) refl (λ _ k. k), search needs))
     (λ c. let a = c .before .before .before .before .before .before .args in (back-empty (pieceOf (a .x .piece)) (a .b) (ap pieceOf (c .before .before .if3 .taken)) (inr (c .if5 .taken)) refl (λ _ k. k), search needs))
     (λ c κs. search needs)
-    (λ c. let a = c .before .before .before .before .before .before .before .args in (back-none (pieceOf (a .x .piece)) (a .b) (known (c .before .before .before .before .before .before .is-escapable .ensures) (c .before .before .before .before .before .if1 .left)) (c .before .before .before .before .if2 .left) (other-empty (a .x .piece) (a .x .deep) (a .b) (c .before .before .before .if3 .taken) (c .before .before .if4 .left) (c .before .if5 .left)) (c .stuck .ensures .0), search needs))
+    (λ c. let i = c .before .before .before in let a = i .before .before .before .before .args in (back-none (pieceOf (a .x .piece)) (a .b) (known (i .before .before .before .is-escapable .ensures) (i .before .before .if1 .left)) (i .before .if2 .left) (other-empty (a .x .piece) (a .x .deep) (a .b) (i .if3 .taken) (c .before .before .if4 .left) (c .before .if5 .left)) (c .stuck .ensures .0), search needs))
     (λ c κs. search needs)
     (λ c. let a = c .before .before .before .before .before .args in (back-none (pieceOf (a .x .piece)) (a .b) (known (c .before .before .before .before .is-escapable .ensures) (c .before .before .before .if1 .left)) (c .before .before .if2 .left) (no-empty (a .x .piece) (a .x .deep) (a .b) (c .before .if3 .left)) (c .stuck2 .ensures .0), search needs)))

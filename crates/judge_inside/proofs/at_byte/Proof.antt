@@ -14,6 +14,6 @@ at-byte-spec =
     (λ c. let a = c .before .before .args in (class-closed (a .b) (a .place) (omega arith) (in-class (a .x .piece) (c .before .before .pre .0)) (c .if2 .taken), search needs))
     (λ c. let a = c .before .before .before .before .args in (dash-taken (a .b) (a .place) (omega arith) (c .if4 .taken) (c .before .if3 .taken), search needs))
     (λ c κs. search needs)
-    (λ c. let a = c .before .before .before .before .before .args in (dash-none (a .b) (a .place) (omega arith) (c .before .before .before .before .before .pre .0) (c .before .if4 .left) (c .before .before .if3 .taken) (c .stuck .ensures .0), search needs))
+    (λ c. let s = c .before .before .before .before .before in let a = s .args in (dash-none (a .b) (a .place) (omega arith) (s .pre .0) (c .before .if4 .left) (c .before .before .if3 .taken) (c .stuck .ensures .0), search needs))
     (λ c κs. search needs)
-    (λ c. let a = c .before .before .before .before .args in (byte-else (a .b) (a .place) (omega arith) (in-class (a .x .piece) (c .before .before .before .before .pre .0)) (c .before .before .if2 .left) (c .before .if3 .left) (c .begin-byte2 .ensures .0), search needs)))
+    (λ c. let s = c .before .before .before .before in let a = s .args in (byte-else (a .b) (a .place) (omega arith) (in-class (a .x .piece) (s .pre .0)) (c .before .before .if2 .left) (c .before .if3 .left) (c .begin-byte2 .ensures .0), search needs)))

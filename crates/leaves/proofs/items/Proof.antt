@@ -20,7 +20,7 @@ item-requires : tie.Need-item-requires Inv-loop μ-loop
 item-requires c κs = (rest-item (c .before .before .before .before .before .before .pre .0) (c .before .before .before .loop .inv .1) (c .before .before .byte-at .ensures .0) (c .before .if1 .taken), search needs)
 
 loop-again : tie.Need-loop-again Inv-loop μ-loop
-loop-again c = (search needs, rest-more (c .before .before .before .before .before .before .before .before .before .pre .0) (c .before .before .before .before .before .before .loop .inv .1) (c .before .before .before .before .before .byte-at .ensures .0) (c .before .before .before .before .if1 .taken) (c .before .before .item .ensures))
+loop-again c = let i = c .before .before .before .before in (search needs, rest-more (i .before .before .before .before .before .pre .0) (i .before .before .loop .inv .1) (i .before .byte-at .ensures .0) (i .if1 .taken) (c .before .before .item .ensures))
 
 returns : tie.Need-returns Inv-loop μ-loop
 returns c = rest-none (c .before .before .before .before .before .pre .0) (c .before .before .loop .inv .1) (c .before .byte-at .ensures .0) (c .if1 .left)

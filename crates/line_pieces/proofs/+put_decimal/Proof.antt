@@ -37,9 +37,9 @@ put-decimal-part t = put-decimal-lts.spec (put-byte-reads.Asked, put-byte-reads.
     (λ c κs. omega (arith, c .before .before .before .pre, decimal-longer (c .before .before .before .args .n) (c .before .if1 .left)))
     (λ c. search needs)
     (λ c. search needs)
-    (λ c κs. omega (arith, c .before .before .before .put-decimal .ensures .place, c .before .before .before .put-decimal .ensures .size, decimal-longer (c .before .before .before .before .before .before .before .args .n) (c .before .before .before .before .before .if1 .left)))
+    (λ c κs. let p = c .before .before .before in omega (arith, p .put-decimal .ensures .place, p .put-decimal .ensures .size, decimal-longer (p .before .before .before .before .args .n) (p .before .before .if1 .left)))
     (λ c. search needs)
-    (λ c. appended-as (sym (decimal-more (c .before .before .before .before .before .before .before .before .before .before .args .n) (c .before .before .before .before .before .before .before .before .if1 .left))) (appended-join (c .before .before .before .before .before .before .put-decimal .ensures) (c .before .before .put-byte2 .ensures)))
+    (λ c. let p = c .before .before .before .before .before .before in appended-as (sym (decimal-more (p .before .before .before .before .args .n) (p .before .before .if1 .left))) (appended-join (p .put-decimal .ensures) (c .before .before .put-byte2 .ensures)))
 
 pub +put-decimal-spec : {M : Type 1} → statement M
 +put-decimal-spec = close μ-put-decimal put-decimal-part

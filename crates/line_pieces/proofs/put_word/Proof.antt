@@ -58,12 +58,12 @@ loop-less : tie.Need-loop-less Inv-loop μ-loop
 loop-less c = search needs
 
 loop-again : tie.Need-loop-again Inv-loop μ-loop
-loop-again c = (
-  c .before .before .before .before .before .before .before .before .before .before .before .before .before .loop .inv .0,
+loop-again c = let p = c .before .before in let t = p .before .before .before .before .before .before in let k = t .before .before .before .before .before in (
+  k .loop .inv .0,
   omega arith,
-  omega (arith, c .before .before .before .before .before .before .before .before .put-byte2 .ensures .place, c .before .before .put-byte3 .ensures .place),
-  let l = c .before .before .before .before .before .before .before .before .before .before .before .before .before in
-      appended-hexes (l .before .before .before .before .args .word .now) (l .loop .i) (l .loop .inv .3) (c .before .before .before .before .before .before .before .before .before .before .before .before .loop-test .taken) (c .before .before .before .before .before .before .before .before .before .hex-digit .ensures) (c .before .before .before .hex-digit2 .ensures) (c .before .before .before .before .before .before .before .before .put-byte2 .ensures) (c .before .before .put-byte3 .ensures),
+  omega (arith, t .put-byte2 .ensures .place, p .put-byte3 .ensures .place),
+  let l = k in
+      appended-hexes (l .before .before .before .before .args .word .now) (l .loop .i) (l .loop .inv .3) (t .before .before .before .before .loop-test .taken) (t .before .hex-digit .ensures) (p .before .hex-digit2 .ensures) (t .put-byte2 .ensures) (p .put-byte3 .ensures),
 )
 
 same-length-2 : tie.Need-same-length-2 Inv-loop μ-loop

@@ -9,7 +9,7 @@ expr-requires : tie.Need-expr-requires
 expr-requires c κs = (ready-text (c .before .before .before .before .before .pre .0), search needs)
 
 returns : tie.Need-returns
-returns c = reading (c .before .before .before .before .before .before .before .before .before .before .before .before .pre .1 .0) (c .before .before .before .before .before .before .before .before .before .before .before .before .pre .1 .1) (c .before .before .before .before .before .before .expr .ensures) refl refl refl refl
+returns c = let s = c .before .before .before .before .before .before .before .before .before .before .before .before in reading (s .pre .1 .0) (s .pre .1 .1) (c .before .before .before .before .before .before .expr .ensures) refl refl refl refl
 
 pub read-spec : {M : Type 1} → statement M
 read-spec = tie.close (tie.spec expr-requires (λ c. search needs) (λ c. search needs) returns)

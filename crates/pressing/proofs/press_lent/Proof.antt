@@ -18,13 +18,13 @@ within c = c .before .before .is-within .ensures .yes (not-false _ (c .before .i
 -- what is known of all fields but the open one
 press-open-requires : tie.Need-press-open-requires
 press-open-requires c κs =
-    let w = within (c .before .before .before .before .before .before .before .before .before .before .before) in
+    let i = c .before .before .before .before .before .before in let w = within (i .before .before .before .before .before) in
     record {
-      lent = c .before .before .before .before .before .before .before .before .before .before .before .before .before .before .before .before .before .pre;
+      lent = i .before .before .before .before .before .before .before .before .before .before .before .pre;
       fields = w .0;
       at = refl;
-      is-open = omega (arith, w .1, c .before .before .before .before .before .before .if3 .left);
-      closed = c .before .before .before .before .before .before .before .before .are-filled .ensures .yes (not-false _ (c .before .before .before .before .before .before .before .if2 .left));
+      is-open = omega (arith, w .1, i .if3 .left);
+      closed = i .before .before .are-filled .ensures .yes (not-false _ (i .before .if2 .left));
       later = c .before .before .before .before .are-empty2 .ensures .yes (not-false _ (c .before .before .before .if5 .left));
       sound = c .before .before .are-sound .ensures .yes (not-false _ (c .before .if6 .left));
     }
@@ -51,14 +51,14 @@ are-empty-requires c κs = let w = within (c .before .before .before .before .be
 
 returns-3 : tie.Need-returns-3
 returns-3 c =
-    let w = within (c .before .before .before .before .before .before .before .before) in
-    refused-empty (c .before .before .before .before .before .before .before .before .before .before .before .before .before .before .pre) (w .0) (c .before .before .before .if3 .taken) (c .before .are-empty .ensures .no (not-true _ (c .if4 .taken)))
+    let t = c .before .before .before .before .before .before .before .before in let w = within (t) in
+    refused-empty (t .before .before .before .before .before .before .pre) (w .0) (c .before .before .before .if3 .taken) (c .before .are-empty .ensures .no (not-true _ (c .if4 .taken)))
 
 returns-4 : tie.Need-returns-4
 returns-4 c =
-    let w = within (c .before .before .before .before .before .before .before .before) in
-    presses-all (c .before .before .before .before .before .before .before .before .before .before .before .before .before .before .pre) (w .0) (c .before .before .before .if3 .taken) (λ i. omega (arith, c .before .before .before .before .before .before .before .before .before .before .before .before .slice-known .given i))
-    (c .before .before .before .before .before .are-filled .ensures .yes (not-false _ (c .before .before .before .before .if2 .left))) (c .before .are-empty .ensures .yes (not-false _ (c .if4 .left)))
+    let t = c .before .before .before in let u = t .before .before .before .before .before in let w = within (u) in
+    presses-all (u .before .before .before .before .before .before .pre) (w .0) (t .if3 .taken) (λ i. omega (arith, u .before .before .before .before .slice-known .given i))
+    (t .before .before .are-filled .ensures .yes (not-false _ (t .before .if2 .left))) (c .before .are-empty .ensures .yes (not-false _ (c .if4 .left)))
 
 add-are-empty : tie.Need-add-are-empty
 add-are-empty c = omega (arith, c .before .before .before .before .before .slice-known3 .given 1)
@@ -76,8 +76,8 @@ add-are-sound c = omega (arith, c .before .before .before .before .before .befor
 
 are-sound-requires : tie.Need-are-sound-requires
 are-sound-requires c κs =
-    let w = within (c .before .before .before .before .before .before .before .before) in
-    (omega (arith, w .0 .few), c .before .before .before .before .before .before .before .before .before .before .before .before .before .before .pre .rooms-long)
+    let t = c .before .before .before .before .before .before .before .before in let w = within (t) in
+    (omega (arith, w .0 .few), t .before .before .before .before .before .before .pre .rooms-long)
 
 returns-6 : tie.Need-returns-6
 returns-6 c = refused (c .before .before .before .before .before .before .before .before .before .before .before .before .before .before .before .before .pre) (λ s v. c .before .are-sound .ensures .no (not-true _ (c .if6 .taken)) (λ f h k. s f h))

@@ -43,8 +43,8 @@ same-length c = search needs
 
 returns : tie.Need-returns
 returns c =
-    let s = c .before .before .before .before .before .before .before .before .before .before .before .before .before .before in (
-      appended-as (sym (printed-left (left s) (right s) (both s) (c .if1 .taken))) (appended-join (c .before .before .before .before .before .before .before .before .before .put-side .ensures) (c .before .before .before .before .put-side2 .ensures)),
+    let p = c .before .before .before .before .before .before .before .before .before in let s = p .before .before .before .before .before in (
+      appended-as (sym (printed-left (left s) (right s) (both s) (c .if1 .taken))) (appended-join (p .put-side .ensures) (c .before .before .before .before .put-side2 .ensures)),
       omega (arith, sides-short s),
     )
 
@@ -53,8 +53,8 @@ same-length-2 c = search needs
 
 returns-2 : tie.Need-returns-2
 returns-2 c =
-    let s = c .before .before .before .before .before .before .before .before .before .before .before .before .before .before .before .before in (
-      appended-as (sym (printed-right (left s) (right s) (both s) (c .before .before .if1 .left) (c .if2 .taken))) (appended-join (c .before .before .before .before .before .before .before .before .before .before .before .put-side .ensures) (c .before .before .before .before .before .before .put-side2 .ensures)),
+    let p = c .before .before .before .before .before .before in let s = p .before .before .before .before .before .before .before .before .before .before in (
+      appended-as (sym (printed-right (left s) (right s) (both s) (c .before .before .if1 .left) (c .if2 .taken))) (appended-join (p .before .before .before .before .before .put-side .ensures) (p .put-side2 .ensures)),
       omega (arith, sides-short s),
     )
 
@@ -66,10 +66,10 @@ same-length-3 c = search needs
 
 returns-3 : tie.Need-returns-3
 returns-3 c =
-    let s = c .before .before .before .before .before .before .before .before .before .before .before .before .before .before .before .before .before .before .before .before in (
-      appended-as (sym (printed-both (left s) (right s) (both s) (c .before .before .before .before .before .before .if1 .left) (c .before .before .before .before .if2 .left)))
-          (appended-join (appended-join (c .before .before .before .before .before .before .before .before .before .before .before .before .before .before .before .put-side .ensures) (c .before .before .before .before .before .before .before .before .before .before .put-side2 .ensures)) (c .before .before .put-outcome .ensures)),
-      omega (arith, sides-short s, outcome-short (both s) (omega arith) (s .pre .1), c .before .before .before .before .before .before .before .before .before .before .before .before .before .before .before .put-side .ensures .place, c .before .before .before .before .before .before .before .before .before .before .put-side2 .ensures .place, c .before .before .put-outcome .ensures .place),
+    let p = c .before .before in let t = p .before .before .before .before .before .before .before .before in let u = t .before .before .before .before .before in let s = u .before .before .before .before .before in (
+      appended-as (sym (printed-both (left s) (right s) (both s) (p .before .before .before .before .if1 .left) (p .before .before .if2 .left)))
+          (appended-join (appended-join (u .put-side .ensures) (t .put-side2 .ensures)) (p .put-outcome .ensures)),
+      omega (arith, sides-short s, outcome-short (both s) (omega arith) (s .pre .1), u .put-side .ensures .place, t .put-side2 .ensures .place, p .put-outcome .ensures .place),
     )
 
 pub print-lines-spec : {M : Type 1} → statement M

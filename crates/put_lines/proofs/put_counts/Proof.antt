@@ -25,7 +25,7 @@ same-length : tie.Need-same-length
 same-length c = search needs
 
 returns : tie.Need-returns
-returns c = appended-join (c .before .before .before .before .before .before .before .before .before .before .before .before .before .before .before .before .before .before .put-text .ensures) (appended-join (c .before .before .before .before .before .before .before .before .before .before .before .before .before .before .put-decimal .ensures) (appended-join (c .before .before .before .before .before .before .before .before .before .before .put-text2 .ensures) (appended-join (c .before .before .before .before .before .before .put-decimal2 .ensures) (c .before .before .put-byte .ensures))))
+returns c = let p = c .before .before .before .before .before .before .before .before .before .before in appended-join (p .before .before .before .before .before .before .before .before .put-text .ensures) (appended-join (p .before .before .before .before .put-decimal .ensures) (appended-join (p .put-text2 .ensures) (appended-join (c .before .before .before .before .before .before .put-decimal2 .ensures) (c .before .before .put-byte .ensures))))
 
 pub put-counts-spec : {M : Type 1} → statement M
 put-counts-spec =

@@ -27,15 +27,15 @@ put-decimal-requires c κs =
 
 put-byte-requires : tie.Need-put-byte-requires
 put-byte-requires c κs =
-    let s = c .before .before .before .before .before .before .before .before .before .before .before .before .before in omega (arith, s .pre, simp length-append at (ap length (outcome-same (answer s) (c .before .before .before .before .before .before .before .before .before .before .if1 .taken))))
+    let i = c .before .before .before .before .before .before .before .before .before .before in let s = i .before .before .before in omega (arith, s .pre, simp length-append at (ap length (outcome-same (answer s) (i .if1 .taken))))
 
 same-length : tie.Need-same-length
 same-length c = search needs
 
 returns : tie.Need-returns
 returns c =
-    appended-as (sym (outcome-same (answer (c .before .before .before .before .before .before .before .before .before .before .before .before .before .before .before .before)) (c .before .before .before .before .before .before .before .before .before .before .before .before .before .if1 .taken)))
-    (appended-join (c .before .before .before .before .before .before .before .before .before .before .put-text .ensures) (appended-join (c .before .before .before .before .before .before .put-decimal .ensures) (c .before .before .put-byte .ensures)))
+    let p = c .before .before .before .before .before .before .before .before .before .before in appended-as (sym (outcome-same (answer (p .before .before .before .before .before .before)) (p .before .before .before .if1 .taken)))
+    (appended-join (p .put-text .ensures) (appended-join (c .before .before .before .before .before .before .put-decimal .ensures) (c .before .before .put-byte .ensures)))
 
 slice-aggregate-put-counts : tie.Need-slice-aggregate-put-counts
 slice-aggregate-put-counts c = search needs
@@ -53,27 +53,27 @@ slice-aggregate-put-text-2 c = search needs
 
 put-text-requires-2 : tie.Need-put-text-requires-2
 put-text-requires-2 c κs =
-    let s = c .before .before .before .before .before .before .before .before .before .before .before in
-    omega (arith, s .pre, simp length-append at (ap length (outcome-apart (answer s) (c .before .before .before .before .before .before .before .before .if1 .left))), simp length-append at (c .before .before .before .before .put-counts .ensures .place))
+    let p = c .before .before .before .before in let s = p .before .before .before .before .before .before .before in
+    omega (arith, s .pre, simp length-append at (ap length (outcome-apart (answer s) (p .before .before .before .before .if1 .left))), simp length-append at (p .put-counts .ensures .place))
 
 put-word-requires : tie.Need-put-word-requires
 put-word-requires c κs =
-    let s = c .before .before .before .before .before .before .before .before .before .before .before .before .before .before .before in
-    omega (arith, s .pre, simp length-append at (ap length (outcome-apart (answer s) (c .before .before .before .before .before .before .before .before .before .before .before .before .if1 .left))), simp length-append at (c .before .before .before .before .before .before .before .before .put-counts .ensures .place))
+    let p = c .before .before .before .before .before .before .before .before in let s = p .before .before .before .before .before .before .before in
+    omega (arith, s .pre, simp length-append at (ap length (outcome-apart (answer s) (p .before .before .before .before .if1 .left))), simp length-append at (p .put-counts .ensures .place))
 
 put-byte-requires-2 : tie.Need-put-byte-requires-2
 put-byte-requires-2 c κs =
-    let s = c .before .before .before .before .before .before .before .before .before .before .before .before .before .before .before .before .before .before .before in
-    omega (arith, s .pre, simp length-append at (ap length (outcome-apart (answer s) (c .before .before .before .before .before .before .before .before .before .before .before .before .before .before .before .before .if1 .left))), simp length-append at (c .before .before .before .before .before .before .before .before .before .before .before .before .put-counts .ensures .place))
+    let p = c .before .before .before .before .before .before .before .before .before .before .before .before in let s = p .before .before .before .before .before .before .before in
+    omega (arith, s .pre, simp length-append at (ap length (outcome-apart (answer s) (p .before .before .before .before .if1 .left))), simp length-append at (p .put-counts .ensures .place))
 
 same-length-2 : tie.Need-same-length-2
 same-length-2 c = search needs
 
 returns-2 : tie.Need-returns-2
 returns-2 c =
-    appended-as (sym (outcome-apart (answer (c .before .before .before .before .before .before .before .before .before .before .before .before .before .before .before .before .before .before .before .before .before .before)) (c .before .before .before .before .before .before .before .before .before .before .before .before .before .before .before .before .before .before .before .if1 .left)))
-    (appended-join (c .before .before .before .before .before .before .before .before .before .before .before .before .before .before .before .put-counts .ensures)
-    (appended-join (c .before .before .before .before .before .before .before .before .before .before .put-text2 .ensures) (appended-join (c .before .before .before .before .before .before .put-word .ensures) (c .before .before .put-byte2 .ensures))))
+    let p = c .before .before .before .before .before .before in let t = p .before .before .before .before .before .before .before .before .before in appended-as (sym (outcome-apart (answer (t .before .before .before .before .before .before .before)) (t .before .before .before .before .if1 .left)))
+    (appended-join (t .put-counts .ensures)
+    (appended-join (p .before .before .before .before .put-text2 .ensures) (appended-join (p .put-word .ensures) (c .before .before .put-byte2 .ensures))))
 
 pub put-outcome-spec : {M : Type 1} → statement M
 put-outcome-spec =

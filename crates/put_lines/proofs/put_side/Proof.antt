@@ -25,13 +25,13 @@ slice-aggregate-put-counts-2 c = search needs
 
 put-counts-requires : tie.Need-put-counts-requires
 put-counts-requires c κs =
-    let s = c .before .before .before .before .before .before .before .before .before .before .before in omega (arith, room-behind (told (side s)) (c .before .before .before .before .before .before .before .put-text .ensures) (s .pre), ap length (told-done (side s) (c .before .before .before .if1 .taken)))
+    let p = c .before .before .before .before .before .before .before in let s = p .before .before .before .before in omega (arith, room-behind (told (side s)) (p .put-text .ensures) (s .pre), ap length (told-done (side s) (c .before .before .before .if1 .taken)))
 
 same-length : tie.Need-same-length
 same-length c = search needs
 
 returns : tie.Need-returns
-returns c = appended-join (c .before .before .before .before .before .before .before .before .before .before .put-text .ensures) (appended-as (sym (told-done (side (c .before .before .before .before .before .before .before .before .before .before .before .before .before .before)) (c .before .before .before .before .before .before .if1 .taken))) (c .before .before .put-counts .ensures))
+returns c = let i = c .before .before .before .before .before .before in appended-join (i .before .before .before .before .put-text .ensures) (appended-as (sym (told-done (side (i .before .before .before .before .before .before .before .before)) (i .if1 .taken))) (c .before .before .put-counts .ensures))
 
 slice-aggregate-put-counts-3 : tie.Need-slice-aggregate-put-counts-3
 slice-aggregate-put-counts-3 c = search needs
@@ -44,13 +44,13 @@ slice-aggregate-put-counts-4 c = search needs
 
 put-counts-requires-2 : tie.Need-put-counts-requires-2
 put-counts-requires-2 c κs =
-    let s = c .before .before .before .before .before .before .before .before .before .before .before .before in omega (arith, room-behind (told (side s)) (c .before .before .before .before .before .before .before .before .put-text .ensures) (s .pre), ap length (told-refused (side s) (c .before .before .before .before .if1 .left)))
+    let i = c .before .before .before .before in let s = i .before .before .before .before .before .before .before .before in omega (arith, room-behind (told (side s)) (i .before .before .before .before .put-text .ensures) (s .pre), ap length (told-refused (side s) (i .if1 .left)))
 
 same-length-2 : tie.Need-same-length-2
 same-length-2 c = search needs
 
 returns-2 : tie.Need-returns-2
-returns-2 c = appended-join (c .before .before .before .before .before .before .before .before .before .before .before .put-text .ensures) (appended-as (sym (told-refused (side (c .before .before .before .before .before .before .before .before .before .before .before .before .before .before .before)) (c .before .before .before .before .before .before .before .if1 .left))) (c .before .before .put-counts2 .ensures))
+returns-2 c = let i = c .before .before .before .before .before .before .before in appended-join (i .before .before .before .before .put-text .ensures) (appended-as (sym (told-refused (side (i .before .before .before .before .before .before .before .before)) (i .if1 .left))) (c .before .before .put-counts2 .ensures))
 
 pub put-side-spec : {M : Type 1} → statement M
 put-side-spec =

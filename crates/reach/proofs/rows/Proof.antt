@@ -22,12 +22,12 @@ row-requires c κs = (search needs, c .before .before .before .before .before .b
 
 returns : tie.Need-returns Inv-loop μ-loop
 returns c =
-    filled-many (c .before .before .before .before .before .before .before .before .before .before .before .before .before .before .before .before .before .before .before .pre .0) (c .before .before .before .before .before .before .before .before .before .before .before .before .before .before .before .loop .inv .0) (c .before .before .before .before .before .before .before .before .before .before .before .before .before .before .loop-test .taken) (c .before .before .before .before .before .before .before .before .before .before .before .before .load .ensures) (c .before .before .before .before .before .before .before .before .before .before .before .follows .ensures) (c .before .before .before .before .before .before .before .row .ensures .1) (c .enum-told .given .1)
+    let r = c .before .before .before .before .before .before .before in let f = r .before .before .before .before in filled-many (f .before .before .before .before .before .before .before .before .pre .0) (f .before .before .before .before .loop .inv .0) (f .before .before .before .loop-test .taken) (f .before .load .ensures) (f .follows .ensures) (r .row .ensures .1) (c .enum-told .given .1)
 
 loop-again : tie.Need-loop-again Inv-loop μ-loop
-loop-again c = (
-  filled-next (c .before .before .before .before .before .before .before .before .before .before .before .before .before .before .before .before .before .before .before .before .pre .0) (c .before .before .before .before .before .before .before .before .before .before .before .before .before .before .before .before .loop .inv .0) (c .before .before .before .before .before .before .before .before .before .before .before .before .before .before .before .loop-test .taken) (c .before .before .before .before .before .before .before .before .before .before .before .before .before .load .ensures) (c .before .before .before .before .before .before .before .before .before .before .before .before .follows .ensures) (c .before .before .before .before .before .before .before .before .row .ensures .1) _ (c .before .counted .given .1),
-  rw (c .before .counted .given .1) at (c .before .before .before .before .before .before .before .before .row .ensures .0),
+loop-again c = let r = c .before .before .before .before .before .before .before .before in let f = r .before .before .before .before in (
+  filled-next (f .before .before .before .before .before .before .before .before .pre .0) (f .before .before .before .before .loop .inv .0) (f .before .before .before .loop-test .taken) (f .before .load .ensures) (f .follows .ensures) (r .row .ensures .1) _ (c .before .counted .given .1),
+  rw (c .before .counted .given .1) at (r .row .ensures .0),
 )
 
 returns-2 : tie.Need-returns-2 Inv-loop μ-loop

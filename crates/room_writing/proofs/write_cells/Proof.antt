@@ -20,7 +20,7 @@ element-copy-out-write-row : tie.Need-element-copy-out-write-row Inv-loop μ-loo
 element-copy-out-write-row c = omega (arith, c .before .before .before .before .pre .0 .few, c .loop-test .taken)
 
 cast-write-row : tie.Need-cast-write-row Inv-loop μ-loop
-cast-write-row c = omega (arith, c .before .before .before .before .before .pre .0 .inside (c .before .before .loop .q) (c .before .loop-test .taken) (omega arith), c .before .before .before .before .before .pre .0 .sound .few-states)
+cast-write-row c = let s = c .before .before .before .before .before in omega (arith, s .pre .0 .inside (c .before .before .loop .q) (c .before .loop-test .taken) (omega arith), s .pre .0 .sound .few-states)
 
 write-row-requires : tie.Need-write-row-requires Inv-loop μ-loop
 write-row-requires c κs = let d = c .before .before .before .before .before .before .pre in
@@ -29,7 +29,7 @@ write-row-requires c κs = let d = c .before .before .before .before .before .be
     ((d .0 .sound, d .0 .inside (l .q) h (omega arith)), (d .1 .0, d .1 .1, omega (arith, cells-fit (l .inv) h (d .0 .few) (d .1 .0), d .1 .2, l .inv .stored .size)))
 
 add-at : tie.Need-add-at Inv-loop μ-loop
-add-at c = omega (arith, cells-fit (c .before .before .before .before .before .before .loop .inv) (c .before .before .before .before .before .loop-test .taken) (c .before .before .before .before .before .before .before .before .before .pre .0 .few) (c .before .before .before .before .before .before .before .before .before .pre .1 .0))
+add-at c = let l = c .before .before .before .before .before in let s = l .before .before .before .before in omega (arith, cells-fit (l .before .loop .inv) (l .loop-test .taken) (s .pre .0 .few) (s .pre .1 .0))
 
 add-q : tie.Need-add-q Inv-loop μ-loop
 add-q c = search needs

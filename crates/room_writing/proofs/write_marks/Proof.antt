@@ -30,7 +30,7 @@ add-to : tie.Need-add-to Inv-loop μ-loop
 add-to c = omega (arith, c .before .before .before .pre .0 .inside (c .before .before .loop .q) (c .before .loop-test .taken) (omega arith), c .before .before .before .pre .0 .sound .few-states)
 
 shared-slice-read-to : tie.Need-shared-slice-read-to Inv-loop μ-loop
-shared-slice-read-to c = omega (arith, c .before .before .before .before .pre .0 .inside (c .before .before .before .loop .q) (c .before .before .loop-test .taken) (omega arith), c .before .before .before .before .pre .0 .sound .few-states, c .before .before .before .before .pre .0 .sound .long)
+shared-slice-read-to c = let s = c .before .before .before .before in omega (arith, s .pre .0 .inside (c .before .before .before .loop .q) (c .before .before .loop-test .taken) (omega arith), s .pre .0 .sound .few-states, s .pre .0 .sound .long)
 
 add-to-2 : tie.Need-add-to-2 Inv-loop μ-loop
 add-to-2 c = omega (arith, c .before .before .before .before .pre .0 .few)
@@ -45,7 +45,7 @@ loop-less : tie.Need-loop-less Inv-loop μ-loop
 loop-less c = search needs
 
 loop-again : tie.Need-loop-again Inv-loop μ-loop
-loop-again c = (search needs, stored-next (λ q. markOf (c .before .before .before .before .args .from .now) (getD (c .before .before .before .before .args .order .now) q 0)) (omega (arith, c .before .before .before .before .pre .0 .few, c .before .before .before .before .pre .1, c .before .before .loop-test .taken)) refl (c .before .before .before .loop .inv .1))
+loop-again c = let s = c .before .before .before .before in (search needs, stored-next (λ q. markOf (s .args .from .now) (getD (s .args .order .now) q 0)) (omega (arith, s .pre .0 .few, s .pre .1, c .before .before .loop-test .taken)) refl (c .before .before .before .loop .inv .1))
 
 same-length : tie.Need-same-length Inv-loop μ-loop
 same-length c = c .before .loop .inv .1 .size

@@ -66,10 +66,10 @@ slice-write-to c = omega (arith, c .before .before .before .before .before .befo
 
 loop-again : tie.Need-loop-again Inv-loop μ-loop
 loop-again c =
-    let g = c .before .before .before .before .before .before .before .before .args in (
+    let l = c .before .before .before in let s = l .before .before .before .before .before in let g = s .args in (
       search needs,
-      stored-next (λ x. getD (g .into .now) (cellOf (g .from .now) (g .state) (getD (g .leader .now) x 0)) 0) (omega (arith, c .before .before .before .before .before .before .before .before .pre .1 .2, c .before .before .before .loop-test .taken))
-          (rw (c .before .before .before .before .before .head .ensures .1) refl) (c .before .before .before .before .loop .inv .1),
+      stored-next (λ x. getD (g .into .now) (cellOf (g .from .now) (g .state) (getD (g .leader .now) x 0)) 0) (omega (arith, s .pre .1 .2, l .loop-test .taken))
+          (rw (l .before .before .head .ensures .1) refl) (l .before .loop .inv .1),
     )
 
 same-length : tie.Need-same-length Inv-loop μ-loop

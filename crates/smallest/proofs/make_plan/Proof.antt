@@ -13,18 +13,18 @@ arrivals-requires c κs = let r = c .before .before .refine-alone .ensures in re
 
 merge-requires : tie.Need-merge-requires
 merge-requires c κs =
-    let s = c .before .before .before .before .before .before .before .before .before .before .before .before .pre in
-    let r = c .before .before .before .before .before .before .before .before .refine-alone .ensures in
+    let a = c .before .before .before .before .before in let s = a .before .before .before .before .before .before .before .pre in
+    let r = a .before .before .before .refine-alone .ensures in
     let k = r .bytes .are in
-    (rows s k (r .columns) (r .parts) (c .before .before .before .before .before .arrivals .ensures), (k .few, ready s k (r .columns) (r .parts) .columns, distinct k (r .columns)))
+    (rows s k (r .columns) (r .parts) (a .arrivals .ensures), (k .few, ready s k (r .columns) (r .parts) .columns, distinct k (r .columns)))
 
 of-bytes-requires : tie.Need-of-bytes-requires
 of-bytes-requires c κs = c .before .before .before .before .before .before .before .before .before .before .before .before .before .before .before .before .pre
 
 returns : tie.Need-returns
 returns c =
-    let r = c .before .before .before .before .before .before .before .before .before .before .before .before .before .refine-alone .ensures in
-    planned (c .before .before .before .before .before .before .before .before .before .before .before .before .before .before .before .before .before .pre) (r .bytes .are) (r .columns) (r .parts) (c .before .before .before .before .before .before .before .before .before .before .arrivals .ensures) (c .before .before .before .before .merge .ensures) (c .of-bytes .ensures)
+    let a = c .before .before .before .before .before .before .before .before .before .before in let r = a .before .before .before .refine-alone .ensures in
+    planned (a .before .before .before .before .before .before .before .pre) (r .bytes .are) (r .columns) (r .parts) (a .arrivals .ensures) (c .before .before .before .before .merge .ensures) (c .of-bytes .ensures)
 
 pub make-plan-spec : {M : Type 1} → statement M
 make-plan-spec = tie.close (tie.spec refine-alone-requires arrivals-requires merge-requires of-bytes-requires returns)

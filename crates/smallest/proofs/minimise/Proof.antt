@@ -41,11 +41,11 @@ smallest-requires c κs =
 
 returns-4 : tie.Need-returns-4
 returns-4 c =
-    let r = c .before .before .smallest .ensures in
-    let s = c .before .before .before .before .before .before .before .before .before .before in
+    let i = c .before .before .before .before in let r = c .before .before .smallest .ensures in
+    let s = i .before .before .before .before .before .before in
     let l = s .before .before .before in
     minimised (lent (l .before .before .before .before .before .if1 .left) (l .before .is-lent .ensures .yes (not-false _ (l .if2 .left))))
-    (c .before .before .before .before .before .is-sound .ensures .yes (not-false _ (c .before .before .before .before .if3 .left))) (r .0) (r .1) (r .2) (s .clear .ensures)
+    (i .before .is-sound .ensures .yes (not-false _ (i .if3 .left))) (r .0) (r .1) (r .2) (s .clear .ensures)
 
 pub minimise-spec : {M : Type 1} → statement M
 minimise-spec =

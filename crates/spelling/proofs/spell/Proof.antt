@@ -58,12 +58,12 @@ loop-less c = omega (arith, element-copy-out-x (c .before .before .before .befor
 
 loop-again : tie.Need-loop-again Inv-loop μ-loop Inv-walk μ-walk
 loop-again c =
-    let s = c .before .before .before .before .before .before .before .before .before .before .before .before .before .pre in
-    tried-more (s .0) (s .1 .0 .1 .are) (c .before .before .before .before .before .before .before .before .walk .inv) (c .before .before .before .before .before .before .loop-test .left) (c .before .before .before .before .before .before .before .loop .i) (c .before .before .before .before .before .before .before .loop .inv)
-    (c .before .before .before .before .step .ensures) (c .before .before .before .step2 .ensures) (c .before .before .climb .ensures) (c .before .climb2 .ensures) (c .if1 .left)
+    let t = c .before .before .before in let l = t .before .before .before .before in let s = l .before .before .before .before .before .before .pre in
+    tried-more (s .0) (s .1 .0 .1 .are) (l .before .walk .inv) (t .before .before .before .loop-test .left) (l .loop .i) (l .loop .inv)
+    (t .before .step .ensures) (t .step2 .ensures) (c .before .before .climb .ensures) (c .before .climb2 .ensures) (c .if1 .left)
 
 slice-write-word : tie.Need-slice-write-word Inv-loop μ-loop Inv-walk μ-walk
-slice-write-word c = let w = c .before .before .before .before .before .before .before .before .walk .inv in omega (arith, w .within, w .kept .size, c .before .before .before .before .before .before .loop-test .left, c .before .before .before .before .before .before .before .before .before .before .before .before .before .pre .1 .1)
+slice-write-word c = let l = c .before .before .before .before .before .before in let w = l .before .before .walk .inv in omega (arith, w .within, w .kept .size, l .loop-test .left, l .before .before .before .before .before .before .before .pre .1 .1)
 
 add-at : tie.Need-add-at Inv-loop μ-loop Inv-walk μ-walk
 add-at c = omega (arith, c .before .before .before .before .before .before .before .before .walk .inv .within)
@@ -73,11 +73,11 @@ walk-less c = omega (arith, c .before .before .before .before .before .before .b
 
 walk-again : tie.Need-walk-again Inv-loop μ-loop Inv-walk μ-walk
 walk-again c =
-    let s = c .before .before .before .before .before .before .before .before .before .before .before .before .before .pre in
-    let w = c .before .before .before .before .before .before .before .before .walk .inv in
-    writing-more (s .0) (s .1 .0 .1 .are) w (c .before .before .before .before .before .before .loop-test .left) (c .before .before .before .before .before .before .before .loop .i) (c .before .before .before .before .before .before .before .loop .inv)
+    let l = c .before .before .before .before .before .before in let k = l .before in let s = k .before .before .before .before .before .before .pre in
+    let w = k .before .walk .inv in
+    writing-more (s .0) (s .1 .0 .1 .are) w (l .loop-test .left) (k .loop .i) (k .loop .inv)
     (c .before .before .before .before .step .ensures) (c .before .before .before .step2 .ensures) (c .before .before .climb .ensures) (c .before .climb2 .ensures)
-    (omega (arith, w .within, c .before .before .before .before .before .before .loop-test .left, s .1 .1)) (c .if1 .taken)
+    (omega (arith, w .within, l .loop-test .left, s .1 .1)) (c .if1 .taken)
 
 same-length : tie.Need-same-length Inv-loop μ-loop Inv-walk μ-walk
 same-length c = c .before .before .walk .inv .kept .size

@@ -19,7 +19,7 @@ returns-3 : tie.Need-returns-3
 returns-3 c = accepted (told (c .before .before .match-text .ensures) (c .enum-told .given .1))
 
 returns-4 : tie.Need-returns-4
-returns-4 c = stands-unfinished (c .before .before .before .before .before .pre) (bytes-known (c .before .before .before .before .before .args .text .now) (λ i. omega (arith, c .before .before .before .shared-slice-known2 .given i))) (told (c .before .before .match-text .ensures) (c .enum-told2 .given .1))
+returns-4 c = let s = c .before .before .before .before .before in stands-unfinished (s .pre) (bytes-known (s .args .text .now) (λ i. omega (arith, c .before .before .before .shared-slice-known2 .given i))) (told (c .before .before .match-text .ensures) (c .enum-told2 .given .1))
 
 returns-5 : tie.Need-returns-5
 returns-5 c = stands-lost (c .before .before .before .before .before .before .before .before .pre) (told (c .before .before .before .before .before .match-text .ensures) (c .before .before .before .matched .given .1)) (omega (arith, c .before .if1 .left)) (omega (arith, c .if2 .left))

@@ -24,8 +24,8 @@ of-bytes-requires c κs = omega (arith, size c)
 
 returns : tie.Need-returns
 returns c =
-    let a = c .before .before .before .before .before .before .before .args in
-    let p = c .before .before .before .before .before .before .before .pre in
+    let s = c .before .before .before .before .before .before .before in let a = s .args in
+    let p = s .pre in
     rw (room-part (a .rooms .now) (a .f), joined-text (p .0 .lent .form-long) (inside (p .0)) (p .1) (p .2) (c .before .before .before .before .joined .ensures)) at (c .of-bytes .ensures)
 
 pub of-typed-spec : {M : Type 1} → statement M

@@ -38,9 +38,9 @@ loop-less : tie.Need-loop-less Inv-loop μ-loop
 loop-less c = search needs
 
 loop-again : tie.Need-loop-again Inv-loop μ-loop
-loop-again c = (
+loop-again c = let t = c .before .before .before .before .before .before .before .before .before .before in (
   search needs,
-  let l = c .before .before .before .before .before .before .before .before .before .before .before in takes-more (l .before .before .before .before .args .block .now) (l .loop .i) (l .loop .inv .1) (c .before .before .before .before .before .before .before .before .before .before .loop-test .taken) (c .before .before .before .before .take-byte .ensures),
+  let l = t .before in takes-more (l .before .before .before .before .args .block .now) (l .loop .i) (l .loop .inv .1) (t .loop-test .taken) (c .before .before .before .before .take-byte .ensures),
 )
 
 same-length-3 : tie.Need-same-length-3 Inv-loop μ-loop

@@ -19,8 +19,8 @@ same-length c = search needs
 
 returns-2 : tie.Need-returns-2
 returns-2 c =
-    let s = c .before .before .before .before .before .before .before .before .before in
-    takes-first (s .args .byte) (c .before .before .keep .result) (s .args .t) (s .args .right .now) (c .before .before .before .before .before .before .if1 .left) (c .before .before .before .before .if2 .taken) (c .before .before .keep .ensures)
+    let k = c .before .before in let s = k .before .before .before .before .before .before .before in
+    takes-first (s .args .byte) (k .keep .result) (s .args .t) (s .args .right .now) (k .before .before .before .before .if1 .left) (k .before .before .if2 .taken) (k .keep .ensures)
 
 keep-requires-2 : tie.Need-keep-requires-2
 keep-requires-2 c κs = search needs
@@ -30,8 +30,8 @@ same-length-2 c = search needs
 
 returns-3 : tie.Need-returns-3
 returns-3 c =
-    let s = c .before .before .before .before .before .before .before .before .before in
-    takes-second (s .args .byte) (c .before .before .keep2 .result) (s .args .t) (s .args .left .now) (c .before .before .before .before .before .before .if1 .left) (s .pre .0) (c .before .before .before .before .if2 .left) (c .before .before .keep2 .ensures)
+    let k = c .before .before in let s = k .before .before .before .before .before .before .before in
+    takes-second (s .args .byte) (k .keep2 .result) (s .args .t) (s .args .left .now) (k .before .before .before .before .if1 .left) (s .pre .0) (k .before .before .if2 .left) (k .keep2 .ensures)
 
 pub take-byte-spec : {M : Type 1} → statement M
 take-byte-spec =

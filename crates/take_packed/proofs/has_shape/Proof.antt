@@ -20,11 +20,11 @@ returns-2 c =
 
 returns-3 : tie.Need-returns-3
 returns-3 c =
-    let start = c .before .before .before .before .before .before in
-    let bits = c .before .before .before .before .form-bits in
+    let f = c .before .before .before .before in let start = f .before .before in
+    let bits = f .form-bits in
     let number : Holds (formBit (start .args .form .now)) 0 4 1 = c .before .before .take .ensures .0 ∙ omega arith in
     judged (start .pre) (bits .result) (bits .ensures .0) (c .take2 .result)
-    (λ i. omega (arith, c .before .before .before .before .before .shared-slice-known .given i))
+    (λ i. omega (arith, f .before .shared-slice-known .given i))
     (omega arith)
     number
     (c .take2 .ensures .0)

@@ -36,26 +36,26 @@ same-length-3 c = c .before .before .append .ensures .size
 
 returns-3 : tie.Need-returns-3
 returns-3 c =
-    let p = c .before .before .before .before .before .before .before .before .before .before .before .before .pre in
-    types-accepted (p .0) (p .1) (λ i. omega (arith, c .before .before .before .before .before .before .before .before .before .before .slice-known .given i)) (search needs) (p .2) (omega (arith, p .1 .short, c .before .before .before .before .before .before .before .before .if1 .left)) (c .before .before .append .ensures) (stood (c .before .before .before .before .before .before .of-typed .ensures) (c .before .before .before .before .enum-told .given .1))
+    let o = c .before .before .before .before .before .before in let p = o .before .before .before .before .before .before .pre in
+    types-accepted (p .0) (p .1) (λ i. omega (arith, o .before .before .before .before .slice-known .given i)) (search needs) (p .2) (omega (arith, p .1 .short, o .before .before .if1 .left)) (c .before .before .append .ensures) (stood (o .of-typed .ensures) (c .before .before .before .before .enum-told .given .1))
 
 same-length-4 : tie.Need-same-length-4
 same-length-4 c = c .before .before .append2 .ensures .size
 
 returns-4 : tie.Need-returns-4
 returns-4 c =
-    let p = c .before .before .before .before .before .before .before .before .before .before .before .before .pre in
-    types-unfinished (p .0) (p .1) (λ i. omega (arith, c .before .before .before .before .before .before .before .before .before .before .slice-known .given i)) (search needs) (p .2) (omega (arith, p .1 .short, c .before .before .before .before .before .before .before .before .if1 .left)) (c .before .before .append2 .ensures) (stood (c .before .before .before .before .before .before .of-typed .ensures) (c .before .before .before .before .enum-told2 .given .1))
+    let o = c .before .before .before .before .before .before in let p = o .before .before .before .before .before .before .pre in
+    types-unfinished (p .0) (p .1) (λ i. omega (arith, o .before .before .before .before .slice-known .given i)) (search needs) (p .2) (omega (arith, p .1 .short, o .before .before .if1 .left)) (c .before .before .append2 .ensures) (stood (o .of-typed .ensures) (c .before .before .before .before .enum-told2 .given .1))
 
 returns-5 : tie.Need-returns-5
 returns-5 c =
-    let p = c .before .before .before .before .before .before .before .before .pre in
-    types-dead (p .0) (p .1) (λ i. omega (arith, c .before .before .before .before .before .before .slice-known .given i)) (search needs) (p .2) (omega (arith, p .1 .short, c .before .before .before .before .if1 .left)) (stood (c .before .before .of-typed .ensures) (c .enum-told3 .given .1))
+    let t = c .before .before .before .before in let p = t .before .before .before .before .pre in
+    types-dead (p .0) (p .1) (λ i. omega (arith, t .before .before .slice-known .given i)) (search needs) (p .2) (omega (arith, p .1 .short, t .if1 .left)) (stood (c .before .before .of-typed .ensures) (c .enum-told3 .given .1))
 
 returns-6 : tie.Need-returns-6
 returns-6 c =
-    let p = c .before .before .before .before .before .before .before .before .pre in
-    types-lost (p .0) (p .1) (λ i. omega (arith, c .before .before .before .before .before .before .slice-known .given i)) (search needs) (p .2) (omega (arith, p .1 .short, c .before .before .before .before .if1 .left)) (stood (c .before .before .of-typed .ensures) (c .enum-told4 .given .1))
+    let t = c .before .before .before .before in let p = t .before .before .before .before .pre in
+    types-lost (p .0) (p .1) (λ i. omega (arith, t .before .before .slice-known .given i)) (search needs) (p .2) (omega (arith, p .1 .short, t .if1 .left)) (stood (c .before .before .of-typed .ensures) (c .enum-told4 .given .1))
 
 pub add-spec : {M : Type 1} → statement M
 add-spec =

@@ -18,9 +18,9 @@ same-length-2 c = c .before .before .take-last .ensures .size
 
 returns-2 : tie.Need-returns-2
 returns-2 c =
-    let p = c .before .before .before .before .before .before .before .before .before .pre in
-    let k = c .before .before .before .before .before .is-kept .ensures .yes (not-false _ (c .before .before .before .before .if1 .left)) in
-    presses-back (p .0) (p .1) (λ i. omega (arith, c .before .before .before .before .before .before .before .slice-known .given i)) (k .0) (k .1) (c .before .before .take-last .ensures)
+    let t = c .before .before .before .before in let p = t .before .before .before .before .before .pre in
+    let k = t .before .is-kept .ensures .yes (not-false _ (t .if1 .left)) in
+    presses-back (p .0) (p .1) (λ i. omega (arith, t .before .before .before .slice-known .given i)) (k .0) (k .1) (c .before .before .take-last .ensures)
 
 pub take-back-spec : {M : Type 1} → statement M
 take-back-spec = tie.close (tie.spec (λ c κs. search needs) (λ c. search needs) returns take-last-requires same-length-2 returns-2)

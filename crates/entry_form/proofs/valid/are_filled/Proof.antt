@@ -34,9 +34,9 @@ returns-2 c = fails (λ a. c .before .is-accepted .ensures .no (not-true _ (c .i
 
 loop-again : tie.Need-loop-again Inv-loop μ-loop
 loop-again c =
-    let a = c .before .before .before .before .before .before .before .before .args in (
+    let l = c .before .before .before .before .before in let a = l .before .before .before .args in (
       omega arith,
-      below-more (ClosedField (a .rooms .now) (a .form .now)) (c .before .before .before .before .before .loop .f) (c .before .before .before .before .before .loop .inv .1)
+      below-more (ClosedField (a .rooms .now) (a .form .now)) (l .loop .f) (l .loop .inv .1)
           (record { plain = c .before .before .before .is-plain .ensures .yes (not-false _ (c .before .before .if1 .left)); accepted = c .before .is-accepted .ensures .yes (not-false _ (c .if2 .left)) }),
     )
 

@@ -18,9 +18,9 @@ returns-2 : tie.Need-returns-2
 returns-2 c = fails (λ w. omega (arith, w .0 .few))
 
 returns-3 : tie.Need-returns-3
-returns-3 c = record {
+returns-3 c = let s = c .before .before .before .before .before .before in record {
   yes = λ e. (record { some = omega arith; few = omega arith }, leb-true _ _ e);
-  no = λ e w. let h : countOf (c .before .before .before .before .before .before .args .form .now) < closedOf (c .before .before .before .before .before .before .args .form .now) = leb-false _ _ e in omega (arith, w .1);
+  no = λ e w. let h : countOf (s .args .form .now) < closedOf (s .args .form .now) = leb-false _ _ e in omega (arith, w .1);
 }
 
 pub is-within-spec : {M : Type 1} → statement M

@@ -19,7 +19,7 @@ more-requires-2 : tie.Need-more-requires-2
 more-requires-2 c κs = search needs
 
 returns-3 : tie.Need-returns-3
-returns-3 c = let x = c .before .before .before .before .before .before .args .self in (record { state = refl; notes = λ _. read-falls _ x (c .before .before .before .before .before .if1 .left) (c .before .before .before .before .if2 .left) (c .before .before .if3 .taken) (c .more2 .ensures) }, (search needs, refl))
+returns-3 c = let i = c .before .before .before .before in let x = i .before .before .args .self in (record { state = refl; notes = λ _. read-falls _ x (i .before .if1 .left) (i .if2 .left) (c .before .before .if3 .taken) (c .more2 .ensures) }, (search needs, refl))
 
 returns-4 : tie.Need-returns-4
 returns-4 c = let x = c .before .before .before .before .args .self in (record { state = refl; notes = λ _. read-rises _ x (c .before .before .before .if1 .left) (c .before .before .if2 .left) (omega arith) }, (search needs, refl))

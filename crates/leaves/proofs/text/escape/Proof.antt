@@ -14,19 +14,13 @@ shared-slice-read-hex-value-2 c = coded-in (c .before .before .before .before .b
 
 -- each digit is below 16
 digits : (c : tie.After-hex-value2) → (c .before .before .hex-value .result < 16) × (c .hex-value2 .result < 16)
-digits c = let e = escape-coded (c .before .before .before .before .before .before .before .pre .reads) (c .before .before .before .before .before .byte-at .ensures .0) (c .before .before .before .before .if1 .taken) (c .before .before .hex-value .ensures) (c .hex-value2 .ensures) in (e .0, e .1)
-
-mul-t11 : tie.Need-mul-t11
-mul-t11 c = omega (arith, digits c)
-
-add-t13 : tie.Need-add-t13
-add-t13 c = omega (arith, digits c)
+digits c = let i = c .before .before .before .before in let e = escape-coded (i .before .before .before .pre .reads) (i .before .byte-at .ensures .0) (i .if1 .taken) (c .before .before .hex-value .ensures) (c .hex-value2 .ensures) in (e .0, e .1)
 
 cast-t15 : tie.Need-cast-t15
 cast-t15 c = omega (arith, escape-plain (c .before .before .before .pre .reads) (c .before .byte-at .ensures .0) (c .if1 .left) .0)
 
 returns : tie.Need-returns
-returns c = escape-coded (c .before .before .before .before .before .before .before .pre .reads) (c .before .before .before .before .before .byte-at .ensures .0) (c .before .before .before .before .if1 .taken) (c .before .before .hex-value .ensures) (c .hex-value2 .ensures) .2
+returns c = let i = c .before .before .before .before in escape-coded (i .before .before .before .pre .reads) (i .before .byte-at .ensures .0) (i .if1 .taken) (c .before .before .hex-value .ensures) (c .hex-value2 .ensures) .2
 
 returns-2 : tie.Need-returns-2
 returns-2 c = escape-plain (c .before .before .before .pre .reads) (c .before .byte-at .ensures .0) (c .if1 .left) .1
@@ -44,8 +38,8 @@ escape-spec =
     shared-slice-read-hex-value-2
     (λ c κs. search needs)
     (λ c. search needs)
-    mul-t11
-    add-t13
+    (λ c. omega (arith, digits c))
+    (λ c. omega (arith, digits c))
     (λ c. search needs)
     cast-t15
     returns

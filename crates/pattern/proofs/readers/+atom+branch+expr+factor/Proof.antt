@@ -101,7 +101,7 @@ atom-part t = atom-lts.spec (byte-at-reads.Asked, byte-at-reads.Learnt, expr-bel
     (λ c κs. ((c .before .before .before .before .before .before .pre .1 .0, λ e. c .before .if1 .left (c .before .before .byte-at .ensures .0 ∙ e)), search needs))
     (λ c. search needs)
     (λ c. search needs)
-    (λ c. answer-inner (c .before .before .before .before .before .before .before .before .before .before .before .before .before .before .pre .1 .0) (c .before .before .before .before .before .before .before .before .before .before .byte-at .ensures .0) (c .before .before .before .before .before .before .before .before .before .if1 .taken) (c .before .before .before .before .before .before .expr .ensures) (c .moved .ensures))
+    (λ c. let e = c .before .before .before .before .before .before in answer-inner (e .before .before .before .before .before .before .before .before .pre .1 .0) (e .before .before .before .before .byte-at .ensures .0) (e .before .before .before .if1 .taken) (e .expr .ensures) (c .moved .ensures))
     (λ c. search needs)
     (λ c. c .before .before .leaf .ensures _)
 
@@ -111,17 +111,17 @@ branch-part t = branch-lts.spec (factor-below t, factor.Post, byte-at-reads.Aske
     branch-Inv-loop
     branch-μ-loop
     (λ c κs. (omega arith, (ready-factor (c .before .before .before .before .before .pre .1 .0), search needs)))
-    (λ c. (c .before .before .before .before .factor .ensures .on, c .before .before .before .before .factor .ensures .inside, refl, refl, carried-none _ _ _ _ _))
+    (λ c. let f = c .before .before .before .before in (f .factor .ensures .on, f .factor .ensures .inside, refl, refl, carried-none _ _ _ _ _))
     (λ c κs. search needs)
     (λ c κs. search needs)
-    (λ c κs. let p = c .before .before .before .before .before .before .before .before .before .before .before .before .before .before .before .before .pre .1 .0 in let q = going (λ i j t. first-branch) p (c .before .before .before .before .before .before .before .before .before .before .factor .ensures) (c .before .before .before .before .before .loop .inv .4) in (omega arith, (factor-ready p q (is-on _ (c .before .before .before .before .byte-at .ensures .0) (c .before .before .before .goes-on .ensures) (c .before .before .if1 .taken)), search needs)))
-    (λ c κs. let p = c .before .before .before .before .before .before .before .before .before .before .before .before .before .before .before .before .before .before .before .before .before .before .pre .1 .0 in let q = going (λ i j t. first-branch) p (c .before .before .before .before .before .before .before .before .before .before .before .before .before .before .before .before .factor .ensures) (c .before .before .before .before .before .before .before .before .before .before .before .loop .inv .4) in ((going-small q (p .brief), omega (arith, c .before .before .before .before .before .before .before .before .before .before .before .before .before .before .before .before .before .before .before .before .before .before .pre .1 .1 .words, c .before .before .before .before .before .before .before .before .before .before .before .loop .inv .3, c .before .before .before .before .before .before .before .before .before .before .before .before .before .words .given, c .before .before .words2 .given)), right-within (q .right)))
+    (λ c κs. (omega arith, (let g = c .before .before .before in let f = g .before .before .before .before .before .before .before in let p = f .before .before .before .before .before .before .pre .1 .0 in let q = going (λ i j t. first-branch) p (f .factor .ensures) (g .before .before .loop .inv .4) in factor-ready p q (is-on _ (g .before .byte-at .ensures .0) (g .goes-on .ensures) (c .before .before .if1 .taken)), search needs)))
+    (λ c κs. let l = c .before .before .before .before .before .before .before .before .before .before .before in let s = l .before .before .before .before .before .before .before .before .before .before .before in let p = s .pre .1 .0 in let q = going (λ i j t. first-branch) p (l .before .before .before .before .before .factor .ensures) (l .loop .inv .4) in ((going-small q (p .brief), omega (arith, s .pre .1 .1 .words, l .loop .inv .3, l .before .before .words .given, c .before .before .words2 .given)), right-within (q .right)))
     (λ c κs. search needs)
     (λ c. search needs)
-    (λ c. (omega arith, omega arith, search needs, search needs, carried-more (c .before .before .before .before .before .before .before .before .before .before .before .before .before .before .before .loop .inv .4) (factor-turn (is-on _ (c .before .before .before .before .before .before .before .before .before .before .before .before .before .before .byte-at .ensures .0) (c .before .before .before .before .before .before .before .before .before .before .before .before .before .goes-on .ensures) (c .before .before .before .before .before .before .before .before .before .before .before .before .if1 .taken)) (c .before .before .before .before .before .before .before .before .before .factor2 .ensures) (c .before .before .before .link .ensures) (c .beside .ensures))))
+    (λ c. let f = c .before .before .before .before .before .before .before .before .before in let i = f .before .before .before in (omega arith, omega arith, search needs, search needs, carried-more (i .before .before .before .loop .inv .4) (factor-turn (is-on _ (i .before .before .byte-at .ensures .0) (i .before .goes-on .ensures) (i .if1 .taken)) (f .factor2 .ensures) (c .before .before .before .link .ensures) (c .beside .ensures))))
     (λ c. search needs)
     (λ c. search needs)
-    (λ c. going-found (λ i j t. first-branch) (c .before .before .before .before .before .before .before .before .before .before .before .before .before .before .pre .1 .0) (c .before .before .before .before .before .before .before .before .factor .ensures) (c .before .before .before .loop .inv .4) (λ t u j x. factor-last x (is-off _ (c .before .before .byte-at .ensures .0) (c .before .goes-on .ensures) (c .if1 .left))))
+    (λ c. let f = c .before .before .before .before .before .before .before .before in going-found (λ i j t. first-branch) (f .before .before .before .before .before .before .pre .1 .0) (f .factor .ensures) (c .before .before .before .loop .inv .4) (λ t u j x. factor-last x (is-off _ (c .before .before .byte-at .ensures .0) (c .before .goes-on .ensures) (c .if1 .left))))
 
 expr-part : {M : Type 1} (t : ℕ) → expr-lts.Closed (branch-below t, branch.Post, byte-at-reads.Asked, byte-at-reads.Learnt, either-reads.Asked, either-reads.Learnt) (expr-at t) expr.Post M
 expr-part t = expr-lts.spec (branch-below t, branch.Post, byte-at-reads.Asked, byte-at-reads.Learnt, either-reads.Asked, either-reads.Learnt) (expr-at t)
@@ -129,16 +129,16 @@ expr-part t = expr-lts.spec (branch-below t, branch.Post, byte-at-reads.Asked, b
     expr-Inv-loop
     expr-μ-loop
     (λ c κs. (omega arith, (ready-branch (c .before .before .before .before .before .pre .1 .0), search needs)))
-    (λ c. (c .before .before .before .before .branch .ensures .on, c .before .before .before .before .branch .ensures .inside, refl, refl, carried-none _ _ _ _ _))
+    (λ c. let b = c .before .before .before .before in (b .branch .ensures .on, b .branch .ensures .inside, refl, refl, carried-none _ _ _ _ _))
     (λ c κs. search needs)
     (λ c. search needs)
-    (λ c κs. let p = c .before .before .before .before .before .before .before .before .before .before .before .before .before .before .before .before .pre .1 .0 in let q = going (λ i j t. first-expr) p (c .before .before .before .before .before .before .before .before .before .before .branch .ensures) (c .before .before .before .before .before .loop .inv .4) in (omega arith, (branch-ready p q (sym (c .before .before .before .before .byte-at .ensures .0) ∙ c .before .before .before .if1 .taken), search needs)))
+    (λ c κs. (omega arith, (let u = c .before .before .before in let b = u .before .before .before .before .before .before .before in let p = b .before .before .before .before .before .before .pre .1 .0 in let q = going (λ i j t. first-expr) p (b .branch .ensures) (u .before .before .loop .inv .4) in branch-ready p q (sym (u .before .byte-at .ensures .0) ∙ u .if1 .taken), search needs)))
     (λ c κs. search needs)
     (λ c. search needs)
-    (λ c. (omega arith, omega arith, search needs, search needs, carried-more (c .before .before .before .before .before .before .before .before .before .before .before .loop .inv .4) (branch-turn (sym (c .before .before .before .before .before .before .before .before .before .before .byte-at .ensures .0) ∙ c .before .before .before .before .before .before .before .before .before .if1 .taken) (c .before .before .before .before .before .branch2 .ensures) (c .either .ensures))))
+    (λ c. let i = c .before .before .before .before .before .before .before .before .before in (omega arith, omega arith, search needs, search needs, carried-more (i .before .before .loop .inv .4) (branch-turn (sym (i .before .byte-at .ensures .0) ∙ i .if1 .taken) (c .before .before .before .before .before .branch2 .ensures) (c .either .ensures))))
     (λ c. search needs)
     (λ c. search needs)
-    (λ c. going-found (λ i j t. first-expr) (c .before .before .before .before .before .before .before .before .before .before .before .before .before .pre .1 .0) (c .before .before .before .before .before .before .before .branch .ensures) (c .before .before .loop .inv .4) (λ t u j x. branch-last x (λ e. c .if1 .left (c .before .byte-at .ensures .0 ∙ e))))
+    (λ c. let b = c .before .before .before .before .before .before .before in going-found (λ i j t. first-expr) (b .before .before .before .before .before .before .pre .1 .0) (b .branch .ensures) (c .before .before .loop .inv .4) (λ t u j x. branch-last x (λ e. c .if1 .left (c .before .byte-at .ensures .0 ∙ e))))
 
 factor-part : {M : Type 1} (t : ℕ) → factor-lts.Closed (atom-below t, atom.Post, stars-reads.Asked, stars-reads.Learnt) (factor-at t) factor.Post M
 factor-part t = factor-lts.spec (atom-below t, atom.Post, stars-reads.Asked, stars-reads.Learnt) (factor-at t)
@@ -147,7 +147,7 @@ factor-part t = factor-lts.spec (atom-below t, atom.Post, stars-reads.Asked, sta
     (λ c κs. factor-fit (c .before .before .before .before .before .before .before .before .before .before .before .pre .1 .0) (c .before .before .before .before .before .atom .ensures) (search needs))
     (λ c. search needs)
     (λ c. search needs)
-    (λ c. factor-found (c .before .before .before .before .before .before .before .before .before .before .before .before .before .before .pre .1 .0) (c .before .before .before .before .before .before .before .before .atom .ensures) (c .before .before .stars .ensures))
+    (λ c. let a = c .before .before .before .before .before .before .before .before in factor-found (a .before .before .before .before .before .before .pre .1 .0) (a .atom .ensures) (c .before .before .stars .ensures))
 
 pub +atom+branch+expr+factor-spec : {M : Type 1} → statement M
 +atom+branch+expr+factor-spec = close μ-atom μ-branch μ-expr μ-factor atom-part branch-part expr-part factor-part

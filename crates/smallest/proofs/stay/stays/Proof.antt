@@ -26,14 +26,14 @@ same-requires c κs =
 
 returns-4 : tie.Need-returns-4
 returns-4 c =
-    let s = c .before .before .before .before .before .before .before .before .before .before .before .before .before .before .before .before .args in
+    let i = c .before .before .before .before .before in let u = i .before .before .before .before .before in let s = u .before .before .before .before .before .before .args in
     let d = same-part (s .t2 .class) classesAt byteValues (s .room .now) (c .same .ensures) in
-    let h = c .before .before .before .before .before .before .before .before .before .before .before .before .before .before .head .ensures in
+    let h = u .before .before .before .before .head .ensures in
     record {
       yes = λ e. record {
-        states = c .before .before .before .before .before .before .before .before .before .before .before .before .if1 .left ∙ h .0;
-        classes = c .before .before .before .before .before .before .before .before .before .before .if2 .left ∙ h .1;
-        order = c .before .before .before .before .before .before .is-same-order .ensures .yes (not-false _ (c .before .before .before .before .before .if3 .left));
+        states = u .before .before .if1 .left ∙ h .0;
+        classes = u .if2 .left ∙ h .1;
+        order = i .before .is-same-order .ensures .yes (not-false _ (i .if3 .left));
         class = d .yes e;
       };
       no = λ e t. d .no e (t .class);
