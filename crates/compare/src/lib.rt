@@ -65,21 +65,14 @@ fn answer(left: &[u8], right: &[u8], word: &mut [u8]) -> Compared
     let s = room::head(left).states;
     let n = s + room::head(right).states;
     let kinds = two_rooms::kinds(left, right, Machine::BYTES);
-    let least = kinds.least;
-    let count = kinds.count;
-    let mut left_columns = [0u8; Machine::BYTES];
-    let mut right_columns = [0u8; Machine::BYTES];
-    two_rooms::columns(left, &least, count, &mut left_columns);
-    two_rooms::columns(right, &least, count, &mut right_columns);
     let mut part = [0u16; refinement::STATES];
     let mut parent = [0u16; refinement::STATES];
     let mut born = [0u16; refinement::STATES];
     let rounds = refinement::refine(
         left,
         right,
-        &left_columns,
-        &right_columns,
-        count,
+        &kinds.least,
+        kinds.count,
         n,
         &mut part,
         &mut parent,
@@ -89,7 +82,7 @@ fn answer(left: &[u8], right: &[u8], word: &mut [u8]) -> Compared
         return Compared::Same(rounds);
     }
     let long = spelling::distance(&part, &parent, &born, 0, s, rounds);
-    spelling::spell(left, right, &part, &parent, &born, &least, long, word);
+    spelling::spell(left, right, &part, &parent, &born, &kinds.least, long, word);
     Compared::Separated(long, rounds)
 }
 

@@ -1,17 +1,14 @@
--- Rows, one cell after the other.
---   row-in, rows-less: a cell of the first n rows; fewer rows
+-- Rows, one after the other.
+--   row-small: where a row begins
 use Prim.Native.Nat.{ℕ, _+_, _*_, _≤_, _<_}
 use mathlib.Core.List.{List}
-use native.Mathlib.Nat.{mul-le-mul-right}
+use native.Mathlib.Nat.{mul-le-mul}
 use native.Mathlib.Omega.{arith}
-use Rattle.scope.proofs.Machines.Room.{flat-in}
-use Rattle.parting.specs.CellRows.{rowCells, CellRows}
+use Rattle.scope.specs.Limits.{byteValues}
+use Rattle.scope.specs.Machines.Room.{statesOf, Sound}
+use Rattle.two_rooms.specs.Side.{bothLimit}
+use Rattle.two_rooms.specs.Kinds.{Kinds}
 
-module _ {a b left right : List ℕ} {count : ℕ} {rows : List ℕ} {n : ℕ} (d : CellRows a b left right count rows n) where
-  -- a cell of the first n rows
-  pub row-in : (q i : ℕ) → q < n → i < count → q * count + i < rowCells
-  row-in q i h l = omega (arith, flat-in n count q i h l, d .fits)
-
-  -- the rows of fewer states
-  pub rows-less : (k : ℕ) → k ≤ n → CellRows a b left right count rows k
-  rows-less k h = record { fits = omega (arith, mul-le-mul-right count h, d .fits); cell = λ q i g l. d .cell q i (omega arith) l }
+-- a row begins at a small number
+pub row-small : {a b least : List ℕ} {count q : ℕ} → Sound a × Sound b → Kinds a b least count → q < statesOf a + statesOf b → q * count ≤ bothLimit * byteValues
+row-small {q = q} (s, t) k h = let l : q ≤ bothLimit = omega (arith, s .few-states, t .few-states) in mul-le-mul l (k .are .few)

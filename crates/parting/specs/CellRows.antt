@@ -1,20 +1,19 @@
--- Rows: where each kind leads each state, one state after the other. They are kept where there is room for them.
+-- Rows: where each kind leads each state, one state after the other, as far as there is room for them.
 --   rowCells: how many cells there is room for
---   RowCell a b left right count rows q i: rows has the cell of the state q and the kind i
---   CellRows a b left right count rows n: there is room for those of the first n states, and rows has them
+--   RowCell next least rows q i: rows has the state to which the kind i leads q
+--   CellRows next least rows n: so for each kind and each of the first n states whose row fits
 use Prim.Native.Nat.{ℕ, _+_, _*_, _≤_, _<_}
 use mathlib.Core.Path.{_≡_}
 use mathlib.Core.List.{List}
-use lib.ListN.{getD}
-use Rattle.two_rooms.specs.Side.{bothLimit, cellIn}
+use lib.ListN.{length, getD}
+use Rattle.two_rooms.specs.Side.{bothLimit}
 
 abbrev pub rowCells : ℕ
 rowCells = 1024
 
-pub record RowCell (a b left right : List ℕ) (count : ℕ) (rows : List ℕ) (q i : ℕ) : Type 0 where
-  pub is : getD rows (q * count + i) 0 ≡ cellIn a b q (getD left i 0) (getD right i 0)
-  pub below : getD rows (q * count + i) 0 < bothLimit
+pub record RowCell (next : ℕ → ℕ → ℕ) (least rows : List ℕ) (q i : ℕ) : Type 0 where
+  pub is : getD rows (q * length least + i) 0 ≡ next q (getD least i 0)
+  pub below : getD rows (q * length least + i) 0 < bothLimit
 
-pub record CellRows (a b left right : List ℕ) (count : ℕ) (rows : List ℕ) (n : ℕ) : Type 0 where
-  pub fits : n * count ≤ rowCells
-  pub cell : (q i : ℕ) → q < n → i < count → RowCell a b left right count rows q i
+abbrev pub CellRows : (ℕ → ℕ → ℕ) → List ℕ → List ℕ → ℕ → Type 0
+CellRows next least rows n = (q i : ℕ) → q < n → i < length least → q * length least + length least ≤ rowCells → RowCell next least rows q i

@@ -1,43 +1,39 @@
 // Whether two states of one part agree: each byte leads them into one part. And the least state that agrees with a given one.
 //
-// Two rooms stand side by side, the states of b after those of a. Only the least byte of each kind is tried. Where there is room for the cells of all states
-// by kind, they are read from rows, one state after the other; else from the rooms.
-use scope::Machine;
-ghost use mathlib.Core.Path.{_≡_};
-ghost use mathlib.Core.Bool.{true};
-ghost use Prim.Native.Nat.{_+_, _≤_, _<_};
-ghost use lib.ListN.{getD};
+// Two rooms stand side by side, the states of b after those of a. Only the least byte of each kind is tried. Where it leads is read from rows, one state after the
+// other, as far as there is room for them; else from the rooms.
+ghost use Prim.Native.Nat.{_+_, _*_, _≤_, _<_};
+ghost use lib.ListN.{length, getD};
 ghost use Rattle.scope.specs.Machines.Room.{statesOf, Sound};
 ghost use Rattle.buffers.specs.Stored.{Decides};
 ghost use Rattle.two_rooms.specs.Side.{both};
-ghost use Rattle.two_rooms.specs.Kinds.{ColumnsOf};
+ghost use Rattle.two_rooms.specs.Kinds.{Kinds};
 ghost use Rattle.parting.specs.Named.{LeastLike, OnePart, Agree};
-ghost use Rattle.parting.specs.CellRows.{CellRows};
+ghost use Rattle.parting.specs.CellRows.{rowCells, CellRows};
 ghost use Rattle.parting.specs.Chain.{Chain};
 
 // How many cells there is room for in rows. Most pairs of machines have fewer.
 pub const ROWS: usize = 1024;
 
-// Whether each byte leads p and q, which lie in one part, into one part, by the cells of the rooms.
-fn agree_cells(
+// Whether each byte leads p and q, which lie in one part, into one part, by the rooms.
+fn agree_rooms(
     a: &[u8],
     b: &[u8],
-    left: &[u8; Machine::BYTES],
-    right: &[u8; Machine::BYTES],
-    count: usize,
+    least: &[u8],
     part: &[u16; two_rooms::STATES],
     p: usize,
     q: usize,
 ) -> bool
     requires { ⌜ Sound (now a) × Sound (now b) ⌝ }
-    requires { ⌜ ColumnsOf (now a) (now b) (now left) (now right) count ⌝ }
+    requires { ⌜ Kinds (now a) (now b) (now least) (length (now least)) ⌝ }
     requires { ⌜ (p < statesOf (now a) + statesOf (now b)) × (q < statesOf (now a) + statesOf (now b)) × OnePart (now part) p q ⌝ }
     ensures { λ r. ⌜ Decides r (Agree ((both (now (a .entry)) (now (b .entry))) .next) (now (part .entry)) p q) ⌝ }
 {
     let mut i: usize = 0;
-    while i < count {
-        let y = two_rooms::cell(a, b, left, right, p, i);
-        let z = two_rooms::cell(a, b, left, right, q, i);
+    while i < least.len() {
+        let x = least[i];
+        let y = two_rooms::step(a, b, p, x);
+        let z = two_rooms::step(a, b, q, x);
         if part[y] != part[z] {
             return false;
         }
@@ -46,23 +42,22 @@ fn agree_cells(
     true
 }
 
-// Whether each byte leads p and q, which lie in one part, into one part, by their rows.
+// Whether each byte leads p and q, which lie in one part, into one part, by their rows, which fit.
 fn agree_rows(
     a: &[u8],
     b: &[u8],
-    left: &[u8; Machine::BYTES],
-    right: &[u8; Machine::BYTES],
-    count: usize,
+    least: &[u8],
     rows: &[u16; ROWS],
     part: &[u16; two_rooms::STATES],
     p: usize,
     q: usize,
 ) -> bool
-    requires { ⌜ ColumnsOf (now a) (now b) (now left) (now right) count ⌝ }
-    requires { ⌜ CellRows (now a) (now b) (now left) (now right) count (now rows) (q + 1) ⌝ }
+    requires { ⌜ Kinds (now a) (now b) (now least) (length (now least)) ⌝ }
+    requires { ⌜ CellRows ((both (now a) (now b)) .next) (now least) (now rows) (q + 1) × (q * length (now least) + length (now least) ≤ rowCells) ⌝ }
     requires { ⌜ (p ≤ q) × OnePart (now part) p q ⌝ }
     ensures { λ r. ⌜ Decides r (Agree ((both (now (a .entry)) (now (b .entry))) .next) (now (part .entry)) p q) ⌝ }
 {
+    let count = least.len();
     let x = p * count;
     let y = q * count;
     let mut i: usize = 0;
@@ -75,29 +70,27 @@ fn agree_rows(
     true
 }
 
-// Whether each byte leads p and q, which lie in one part, into one part; `few`: there are rows.
+// Whether each byte leads p and q, which lie in one part, into one part.
 fn agree(
     a: &[u8],
     b: &[u8],
-    left: &[u8; Machine::BYTES],
-    right: &[u8; Machine::BYTES],
-    count: usize,
-    few: bool,
+    least: &[u8],
     rows: &[u16; ROWS],
     part: &[u16; two_rooms::STATES],
     p: usize,
     q: usize,
 ) -> bool
     requires { ⌜ Sound (now a) × Sound (now b) ⌝ }
-    requires { ⌜ ColumnsOf (now a) (now b) (now left) (now right) count ⌝ }
-    requires { ⌜ (few ≡ true → CellRows (now a) (now b) (now left) (now right) count (now rows) (q + 1)) ⌝ }
+    requires { ⌜ Kinds (now a) (now b) (now least) (length (now least)) ⌝ }
+    requires { ⌜ CellRows ((both (now a) (now b)) .next) (now least) (now rows) (q + 1) ⌝ }
     requires { ⌜ (p ≤ q) × (q < statesOf (now a) + statesOf (now b)) × OnePart (now part) p q ⌝ }
     ensures { λ r. ⌜ Decides r (Agree ((both (now (a .entry)) (now (b .entry))) .next) (now (part .entry)) p q) ⌝ }
 {
-    if few {
-        agree_rows(a, b, left, right, count, rows, part, p, q)
+    let count = least.len();
+    if q * count + count <= ROWS {
+        agree_rows(a, b, least, rows, part, p, q)
     } else {
-        agree_cells(a, b, left, right, count, part, p, q)
+        agree_rooms(a, b, least, part, p, q)
     }
 }
 
@@ -105,25 +98,22 @@ fn agree(
 pub fn walk(
     a: &[u8],
     b: &[u8],
-    left: &[u8; Machine::BYTES],
-    right: &[u8; Machine::BYTES],
-    count: usize,
-    few: bool,
+    least: &[u8],
     rows: &[u16; ROWS],
     part: &[u16; two_rooms::STATES],
     link: &[u16; two_rooms::STATES],
     q: usize,
 ) -> usize
     requires { ⌜ Sound (now a) × Sound (now b) ⌝ }
-    requires { ⌜ ColumnsOf (now a) (now b) (now left) (now right) count ⌝ }
-    requires { ⌜ (few ≡ true → CellRows (now a) (now b) (now left) (now right) count (now rows) (q + 1)) ⌝ }
+    requires { ⌜ Kinds (now a) (now b) (now least) (length (now least)) ⌝ }
+    requires { ⌜ CellRows ((both (now a) (now b)) .next) (now least) (now rows) (q + 1) ⌝ }
     requires { ⌜ (q < statesOf (now a) + statesOf (now b)) × LeastLike (OnePart (now part)) q (getD (now part) q 0) × (getD (now part) q 0 < q) ⌝ }
     requires { ⌜ Chain (Agree ((both (now a) (now b)) .next) (now part)) (now part) (now link) q ⌝ }
     ensures { λ r. ⌜ LeastLike (Agree ((both (now (a .entry)) (now (b .entry))) .next) (now (part .entry))) q r ⌝ }
 {
     let h = part[q] as usize;
     let mut p = h;
-    while !agree(a, b, left, right, count, few, rows, part, p, q) {
+    while !agree(a, b, least, rows, part, p, q) {
         p = link[p] as usize;
         if p == 0 {
             return q;

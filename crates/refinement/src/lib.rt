@@ -1,7 +1,8 @@
 // The refinement of parts that minimising and comparing share.
 //
-// Two rooms stand side by side, the states of b after those of a. Round 0 parts the states by their mark; each next round splits what some byte leads into different
-// parts; the first round that opens no part is the last. With each part its parent is kept, the part that it was split from, and the round of its birth.
+// Rooms stand side by side, the states of b after those of a, and the first n of these states are refined: all of them, or those of a alone, whatever stands beside it.
+// Round 0 parts the states by their mark; each next round splits what some byte leads into different parts; the first round that opens no part is the last. With each
+// part its parent is kept, the part that it was split from, and the round of its birth.
 use scope::Machine;
 ghost use mathlib.Core.Path.{_≡_};
 ghost use Prim.Native.Nat.{_≤_};
@@ -10,7 +11,7 @@ ghost use Rattle.scope.specs.Limits.{byteValues};
 ghost use Rattle.scope.specs.Machines.Room.{Sound};
 ghost use Rattle.scope.specs.Operations.Buffers.{Written};
 ghost use Rattle.two_rooms.specs.Side.{bothLimit, side, FirstStates};
-ghost use Rattle.two_rooms.specs.Kinds.{ColumnsOf};
+ghost use Rattle.two_rooms.specs.Kinds.{Kinds};
 ghost use Rattle.refinement.specs.Refined.{Refined, RefinedAlone};
 
 // The most states that two rooms have.
@@ -30,13 +31,12 @@ fn adopt(from: &[u16; STATES], part: &mut [u16; STATES], link: &mut [u16; STATES
     }
 }
 
-// Refines the first n states until nothing splits, over the columns of the kinds; the number of rounds. In `part`, `parent` and `born`, which are 0 before, are then
-// the part of each state, and for each part its parent and the round it was born in.
+// Refines the first n states until nothing splits, over the least bytes of the `count` kinds; the number of rounds. In `part`, `parent` and `born`, which are 0 before,
+// are then the part of each state, and for each part its parent and the round it was born in.
 pub fn refine(
     a: &[u8],
     b: &[u8],
-    left: &[u8; Machine::BYTES],
-    right: &[u8; Machine::BYTES],
+    least: &[u8],
     count: usize,
     n: usize,
     part: &mut [u16; STATES],
@@ -44,15 +44,14 @@ pub fn refine(
     born: &mut [u16; STATES],
 ) -> usize
     requires { ⌜ FirstStates (now a) (now b) n ⌝ }
-    requires { ⌜ ColumnsOf (now a) (now b) (now left) (now right) count ⌝ }
+    requires { ⌜ Kinds (now a) (now b) (now least) count ⌝ }
     requires { ⌜ (now part ≡ replicate bothLimit 0) × (now parent ≡ replicate bothLimit 0) × (now born ≡ replicate bothLimit 0) ⌝ }
     ensures { λ r. ⌜ Refined (side (now (a .entry)) (now (b .entry)) n) (now (part .exit)) (now (parent .exit)) (now (born .exit)) r ⌝ }
     ensures { λ r. ⌜ (length (now (part .exit)) ≡ bothLimit) × (length (now (parent .exit)) ≡ bothLimit) × (length (now (born .exit)) ≡ bothLimit) ⌝ }
 {
-    let few = n * count <= parting::ROWS;
     let mut rows = [0u16; parting::ROWS];
     let mut from = [0u64; STATES];
-    signs::note_all(a, b, left, right, count, n, few, &mut rows, &mut from);
+    signs::note_all(a, b, &least[..count], n, &mut rows, &mut from);
     let mut touched = signs::begin(a, b, &from, n, part);
     let mut link = [0u16; STATES];
     let mut next = [0u16; STATES];
@@ -61,10 +60,7 @@ pub fn refine(
     while round::round(
         a,
         b,
-        left,
-        right,
-        count,
-        few,
+        &least[..count],
         &rows,
         &from,
         part,
@@ -88,7 +84,8 @@ pub struct Alone {
     pub rounds: usize,
 }
 
-// Refines the states of one room until nothing splits. In `column` and `part`, which are 0 before, are then the class of each kind of bytes and the part of each state.
+// Refines the states of one room until nothing splits: those that come first where it stands beside itself. In `column` and `part`, which are 0 before, are then the
+// class of each kind of bytes and the part of each state.
 pub fn refine_alone(
     room: &[u8],
     column: &mut [u8; Machine::BYTES],
@@ -100,16 +97,14 @@ pub fn refine_alone(
 {
     let machine = room::head(room);
     let bytes = two_rooms::kinds(room, room, machine.classes);
-    let least = bytes.least;
     let kinds = bytes.count;
-    two_rooms::columns(room, &least, kinds, column);
+    two_rooms::columns(room, &bytes.least, kinds, column);
     let mut parent = [0u16; STATES];
     let mut born = [0u16; STATES];
     let rounds = refine(
         room,
         room,
-        column,
-        column,
+        &bytes.least,
         kinds,
         machine.states,
         part,

@@ -2,15 +2,15 @@
 --   RoundPassed R old new₀ new link parent parent′ born born′ r opened q: the pass has come to the state q
 --   chain-kept, chain-opened: what that does to the links
 --   passed-none, passed-stays, passed-joined, passed-opened: a state stays in its part, joins a new one, or opens one
-use Prim.Native.Nat.{ℕ, zero, suc, _+_, _≤_, _<_}
-use mathlib.Core.Path.{_≡_, refl, sym, ap, _∙_}
+use Prim.Native.Nat.{ℕ, _+_, _≤_, _<_}
+use mathlib.Core.Path.{_≡_, refl, sym, _∙_}
 use mathlib.Core.Bool.{Bool, true, false}
 use mathlib.Core.Logic.{inl, inr}
-use mathlib.Core.List.{List, [], _∷_}
+use mathlib.Core.List.{List}
 use native.Mathlib.Omega.{arith}
 use native.Mathlib.Decide.{ℕ-discrete}
 use borrow.Author.Count.{below-more}
-use lib.Seq.{getD-set-same, getD-set-other}
+use lib.Seq.{getD-set-same, getD-set-other, set-getD}
 use lib.ListN.{length, getD, set, length-set}
 use Rattle.scope.proofs.Counting.Tests.{split}
 use Rattle.parting.proofs.Links.{last-more}
@@ -75,12 +75,6 @@ module _ (R : ℕ → ℕ → Type 0) (old link : List ℕ) (q : ℕ) (c : Chain
         begun = below-more (λ (p : ℕ). (x : ℕ) × LeastLike R p x) q (c .begun) (q, f);
       }
 
--- an element that is stored where it is
-set-itself : (l : List ℕ) (i : ℕ) → i < length l → set l i (getD l i 0) ≡ l
-set-itself [] i h = refl
-set-itself (x ∷ l) zero h = refl
-set-itself (x ∷ l) (suc i) h = ap (λ (t : List ℕ). x ∷ t) (set-itself l i (omega arith))
-
 module _ (old new : List ℕ) (q p : ℕ) where
   opens-set : (x : ℕ) → x < q → OpensPart old new x → OpensPart old (set new q p) x
   opens-set x l o = record { begins = getD-set-other new q x p 0 (λ e. omega arith) ∙ o .begins; began = o .began }
@@ -125,7 +119,7 @@ module _ (R : ℕ → ℕ → Type 0) (old new₀ new link parent parent′ born
   pub passed-stays : getD new₀ q 0 ≡ getD old q 0 → LeastLike R q (getD old q 0) → RoundPassed R old new₀ new link parent parent′ born born′ r opened (q + 1)
   passed-stays e f =
       let here : getD new q 0 ≡ getD old q 0 = d .named .kept q (omega arith) ∙ e in
-      let same : set new q (getD old q 0) ≡ new = rw (← here) (set-itself new q (omega (arith, d .named .long))) in
+      let same : set new q (getD old q 0) ≡ new = rw (← here) (set-getD new q 0) in
       rw same at (passed-kept (getD old q 0) f (λ g k. g .least (getD old q 0) k (f .like)) (f .low))
 
   -- a state that joins a part

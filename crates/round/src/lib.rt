@@ -3,14 +3,13 @@
 // A part is named by its least state: so a state that begins a part begins one in every later round, and a part that is opened has one parent, the part that its
 // least state lay in before. A state is looked at only where something has moved that it or the beginning of its part leads to, and compared only with the states
 // that begin new parts within its old one.
-use scope::Machine;
 ghost use mathlib.Core.Path.{_≡_};
 ghost use mathlib.Core.Bool.{true, false};
 ghost use Prim.Native.Nat.{ℕ, _≤_, _<_};
 ghost use lib.ListN.{length, getD, set};
 ghost use Rattle.buffers.specs.Stored.{Decides};
 ghost use Rattle.two_rooms.specs.Side.{bothLimit, both, FirstStates};
-ghost use Rattle.two_rooms.specs.Kinds.{ColumnsOf};
+ghost use Rattle.two_rooms.specs.Kinds.{Kinds};
 ghost use Rattle.parting.specs.Named.{Named, Renamed, OnePart, Agree};
 ghost use Rattle.parting.specs.CellRows.{CellRows};
 ghost use Rattle.signs.specs.Signs.{Steady, Stayed};
@@ -49,10 +48,7 @@ fn shift(
 pub fn round(
     a: &[u8],
     b: &[u8],
-    left: &[u8; Machine::BYTES],
-    right: &[u8; Machine::BYTES],
-    count: usize,
-    few: bool,
+    least: &[u8],
     rows: &[u16; parting::ROWS],
     from: &[u64; two_rooms::STATES],
     part: &[u16; two_rooms::STATES],
@@ -65,8 +61,8 @@ pub fn round(
     r: u16,
 ) -> bool
     requires { ⌜ FirstStates (now a) (now b) n ⌝ }
-    requires { ⌜ ColumnsOf (now a) (now b) (now left) (now right) count ⌝ }
-    requires { ⌜ (few ≡ true → CellRows (now a) (now b) (now left) (now right) count (now rows) n) ⌝ }
+    requires { ⌜ Kinds (now a) (now b) (now least) (length (now least)) ⌝ }
+    requires { ⌜ CellRows ((both (now a) (now b)) .next) (now least) (now rows) n ⌝ }
     requires { ⌜ Named (OnePart (now part)) (now part) n ⌝ }
     requires { ⌜ (length (now next) ≡ bothLimit) × (length (now parent) ≡ bothLimit) × (length (now born) ≡ bothLimit) ⌝ }
     requires { ⌜ Steady ((both (now a) (now b)) .next) (now part) n (now touched) ⌝ }
@@ -86,7 +82,7 @@ pub fn round(
         let h = part[q] as usize;
         if h < q {
             if (signs::sign(q) | signs::sign(h)) & *touched != 0 {
-                let p = parting::walk(a, b, left, right, count, few, rows, part, link, q);
+                let p = parting::walk(a, b, least, rows, part, link, q);
                 if p != h {
                     stirred = stirred | from[q];
                     if shift(q, h, p, r, link, next, parent, born) {

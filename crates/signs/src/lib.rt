@@ -1,16 +1,14 @@
 // Signs of states: a word of 64 signs tells of many states at once which are to be looked at, and never of too few.
 //
-// With each state the signs of those are noted that a byte leads to it, and their cells in rows beside. Round 0 parts the states by their mark, and has then the
+// With each state the signs of those are noted that a byte leads to it, and in rows where each kind leads. Round 0 parts the states by their mark, and has then the
 // signs of the states that lead to one that is not of the first part.
-use scope::Machine;
 ghost use mathlib.Core.Path.{_≡_};
-ghost use mathlib.Core.Bool.{true};
-ghost use Prim.Native.Nat.{_+_, _*_, _%_, _^_, _≤_, _<_};
+ghost use Prim.Native.Nat.{_+_, _%_, _^_, _≤_, _<_};
 ghost use lib.ListN.{length, replicate};
 ghost use Rattle.scope.specs.Machines.Room.{statesOf, Sound};
 ghost use Rattle.scope.specs.Machines.Rounds.{Together};
 ghost use Rattle.two_rooms.specs.Side.{bothLimit, both, side, FirstStates};
-ghost use Rattle.two_rooms.specs.Kinds.{ColumnsOf};
+ghost use Rattle.two_rooms.specs.Kinds.{Kinds};
 ghost use Rattle.parting.specs.Named.{Named};
 ghost use Rattle.parting.specs.CellRows.{rowCells, CellRows};
 ghost use Rattle.signs.specs.Signs.{signs, Gap, Sources, SignNoted, Steady};
@@ -48,34 +46,33 @@ pub fn seek(s: u64, q: usize, n: usize) -> usize
     n
 }
 
-// Notes for each kind the cell of the state q, in its row if there are rows, and the sign of q with the state that it leads to. Where the kind before leads there too,
+// Notes for each kind the state to which it leads q, in the row of q if it fits, and with that state the sign of q. Where the kind before leads there too,
 // the sign is noted already.
 fn note(
     a: &[u8],
     b: &[u8],
-    left: &[u8; Machine::BYTES],
-    right: &[u8; Machine::BYTES],
-    count: usize,
+    least: &[u8],
     q: usize,
-    few: bool,
     rows: &mut [u16; parting::ROWS],
     from: &mut [u64; two_rooms::STATES],
 )
     requires { ⌜ Sound (now a) × Sound (now b) ⌝ }
-    requires { ⌜ ColumnsOf (now a) (now b) (now left) (now right) count × (q < statesOf (now a) + statesOf (now b)) ⌝ }
+    requires { ⌜ Kinds (now a) (now b) (now least) (length (now least)) × (q < statesOf (now a) + statesOf (now b)) ⌝ }
     requires { ⌜ (length (now rows) ≡ rowCells) × (length (now from) ≡ bothLimit) ⌝ }
-    requires { ⌜ (few ≡ true → ((q + 1) * count ≤ rowCells) × CellRows (now a) (now b) (now left) (now right) count (now rows) q) ⌝ }
-    ensures { λ _. ⌜ (few ≡ true → CellRows (now (a .entry)) (now (b .entry)) (now (left .entry)) (now (right .entry)) count (now (rows .exit)) (q + 1)) ⌝ }
+    requires { ⌜ CellRows ((both (now a) (now b)) .next) (now least) (now rows) q ⌝ }
+    ensures { λ _. ⌜ CellRows ((both (now (a .entry)) (now (b .entry))) .next) (now (least .entry)) (now (rows .exit)) (q + 1) ⌝ }
     ensures { λ _. ⌜ SignNoted ((both (now (a .entry)) (now (b .entry))) .next) q (now (from .entry)) (now (from .exit)) ⌝ }
     ensures { λ _. ⌜ (length (now (rows .exit)) ≡ rowCells) × (length (now (from .exit)) ≡ bothLimit) ⌝ }
 {
     let s = sign(q);
+    let count = least.len();
     let x = q * count;
+    let fits = x + count <= parting::ROWS;
     let mut last = two_rooms::STATES;
     let mut i: usize = 0;
     while i < count {
-        let y = two_rooms::cell(a, b, left, right, q, i);
-        if few {
+        let y = two_rooms::step(a, b, q, least[i]);
+        if fits {
             rows[x + i] = y as u16;
         }
         if y != last {
@@ -90,23 +87,19 @@ fn note(
 pub fn note_all(
     a: &[u8],
     b: &[u8],
-    left: &[u8; Machine::BYTES],
-    right: &[u8; Machine::BYTES],
-    count: usize,
+    least: &[u8],
     n: usize,
-    few: bool,
     rows: &mut [u16; parting::ROWS],
     from: &mut [u64; two_rooms::STATES],
 )
-    requires { ⌜ FirstStates (now a) (now b) n × ColumnsOf (now a) (now b) (now left) (now right) count ⌝ }
+    requires { ⌜ FirstStates (now a) (now b) n × Kinds (now a) (now b) (now least) (length (now least)) ⌝ }
     requires { ⌜ (length (now rows) ≡ rowCells) × (length (now from) ≡ bothLimit) ⌝ }
-    requires { ⌜ (few ≡ true → n * count ≤ rowCells) ⌝ }
-    ensures { λ _. ⌜ (few ≡ true → CellRows (now (a .entry)) (now (b .entry)) (now (left .entry)) (now (right .entry)) count (now (rows .exit)) n) ⌝ }
+    ensures { λ _. ⌜ CellRows ((both (now (a .entry)) (now (b .entry))) .next) (now (least .entry)) (now (rows .exit)) n ⌝ }
     ensures { λ _. ⌜ Sources ((both (now (a .entry)) (now (b .entry))) .next) n (now (from .exit)) ⌝ }
 {
     let mut q: usize = 0;
     while q < n {
-        note(a, b, left, right, count, q, few, rows, from);
+        note(a, b, least, q, rows, from);
         q += 1;
     }
 }

@@ -5,8 +5,7 @@
 --   KindsPassed, passed-first, passed-same, passed-level, passed-old, passed-new, passed-full, passed-all: the pass, its turns, and where it ends
 --   passed-byte, passed-few: the least bytes so far are bytes that were passed, and so many
 --   most-bytes, most-classes: there are at most 256 kinds; for one room at most as many as classes
---   columns-of, least-bytes: the classes of the least bytes are the columns; these are bytes
---   left-class, right-class: a column has a class of its room
+--   kinds-part, least-bytes: the least bytes as a part of an array; they are bytes
 --   kind-next, kind-before: a byte leads where the least byte of its kind does; a byte below it is of a smaller kind
 use Prim.Native.Nat.{ℕ, zero, suc, _+_, _-_, _*_, _≤_, _<_}
 use mathlib.Core.Path.{_≡_, refl, sym, ap, _∙_}
@@ -16,8 +15,8 @@ use mathlib.Core.List.{List}
 use native.Mathlib.Omega.{arith}
 use native.Mathlib.Decide.{ℕ-discrete}
 use borrow.Author.Count.{below-more}
-use lib.Seq.{getD-set-same, getD-set-other}
-use lib.ListN.{length, getD, set, replicate, length-set}
+use lib.Seq.{getD-set-same, getD-set-other, length-take-le, getD-take}
+use lib.ListN.{length, take, getD, set, replicate, length-set}
 use Rattle.scope.specs.Limits.{byteValues, classLimit, classesAt}
 use Rattle.scope.specs.Machines.Room.{classesOf, classOf, nextOf, Below, Sound}
 use Rattle.scope.proofs.Counting.Tests.{split}
@@ -27,7 +26,7 @@ use Rattle.buffers.specs.Numbered.{Found, Came, Numbered}
 use Rattle.buffers.proofs.OneMore.{holds, fails}
 use Rattle.buffers.proofs.Numbered.{numbered-none, numbered-old, numbered-new, numbered-one, numbered-few, numbered-fewer}
 use Rattle.two_rooms.specs.Side.{both}
-use Rattle.two_rooms.specs.Kinds.{pairOf, stretch, LevelStretch, KindsOf, Kinds, Most, Column, Used, ColumnsOf}
+use Rattle.two_rooms.specs.Kinds.{pairOf, stretch, LevelStretch, KindsOf, Kinds, Most}
 
 -- a byte's class is below 64
 pub class-small : (m : List ℕ) (x : ℕ) → Sound m → x < byteValues → classOf m x < classLimit
@@ -143,7 +142,7 @@ module _ {a b least : List ℕ} {count last x : ℕ} (g : KindsPassed a b least 
 
   -- all bytes are passed
   pub passed-all : Sound b → x ≡ byteValues → Kinds a b least count
-  passed-all t e = record { kind = g .kind; are = kinds-of a b (g .kind) least t (rw e at (g .numbered)) }
+  passed-all t e = record { long = omega (arith, passed-few, g .least-long); kind = g .kind; are = kinds-of a b (g .kind) least t (rw e at (g .numbered)) }
 
 -- p: the classes of x
 module _ (a b least : List ℕ) (count last x p : ℕ) (h : x < byteValues) (g : KindsPassed a b least count last x) (e : p ≡ pairOf a b x) where
@@ -247,34 +246,38 @@ most-bytes a b = record { number = λ x. x; below = λ x h. h; alike = λ x y h 
 pub most-classes : {a : List ℕ} → Sound a → Most a a (classesOf a)
 most-classes {a} s = record { number = classOf a; below = λ x h. s .classes (classesAt + x) (omega arith) (omega arith); alike = λ x y h l e. rw e refl }
 
--- ---- columns
-
-module _ {a b least : List ℕ} {count : ℕ} (k : Kinds a b least count) where
-  -- the classes of all least bytes
-  pub columns-of : {left right : List ℕ} → Column a least left count → Column b least right count → ColumnsOf a b left right count
-  columns-of l r = record {
-    few = k .are .few;
-    used = λ i h. record { byte = getD least i 0; has = record { is-byte = k .are .byte i h; left = l .inside i h; right = r .inside i h } };
-    all = λ x h.
-        let i = getD (k .kind) x 0 in
-        let g = k .are .below x h in
-        (i, g, record { is-byte = h; left = l .inside i g ∙ k .are .left x h; right = r .inside i g ∙ k .are .right x h });
-  }
-
-  -- the least bytes are bytes
-  pub least-bytes : (count ≤ byteValues) × Below least 0 count byteValues
-  least-bytes = (k .are .few, λ i h g. k .are .byte i h)
-
-module _ {a b left right : List ℕ} {i : ℕ} (u : Used a b left right i) where
-  -- the class of a kind is one of the room a
-  pub left-class : Sound a → getD left i 0 < classesOf a
-  left-class s = rw (u .has .left) (s .classes (classesAt + u .byte) (omega (arith, u .has .is-byte)) (omega arith))
-
-  -- and of b
-  pub right-class : Sound b → getD right i 0 < classesOf b
-  right-class t = rw (u .has .right) (t .classes (classesAt + u .byte) (omega (arith, u .has .is-byte)) (omega arith))
-
 -- ---- for whoever goes over the least bytes
+
+-- those of an array, as a part of their own
+pub kinds-part : {a b least : List ℕ} {count : ℕ} → Kinds a b least count → Kinds a b (take count least) (length (take count least))
+kinds-part {a} {b} {least} {count} k = rw size (record {
+  long = omega (arith, size);
+  kind = k .kind;
+  are = record {
+    few = k .are .few;
+    below = k .are .below;
+    low = λ x l. rw (of x l) (k .are .low x l);
+    left = λ x l. rw (of x l) (k .are .left x l);
+    right = λ x l. rw (of x l) (k .are .right x l);
+    one = k .are .one;
+    byte = λ i l. rw (at i l) (k .are .byte i l);
+    own = λ i l. rw (at i l) (k .are .own i l);
+    rising = λ i j l m. rw (at i (omega arith), at j l) (k .are .rising i j l m);
+  };
+})
+  where
+    size : length (take count least) ≡ count
+    size = length-take-le count least (k .long)
+
+    at : (i : ℕ) → i < count → getD (take count least) i 0 ≡ getD least i 0
+    at i l = getD-take count least i 0 l
+
+    of : (x : ℕ) → x < byteValues → getD (take count least) (getD (k .kind) x 0) 0 ≡ getD least (getD (k .kind) x 0) 0
+    of x l = at (getD (k .kind) x 0) (k .are .below x l)
+
+-- they are bytes
+pub least-bytes : {a b least : List ℕ} {count : ℕ} → Kinds a b least count → (count ≤ byteValues) × Below least 0 count byteValues
+least-bytes k = (k .are .few, λ i h g. k .are .byte i h)
 
 module _ (a b kind least : List ℕ) (count : ℕ) (k : KindsOf a b kind least count) (x : ℕ) (h : x < byteValues) where
   -- a byte leads where the least byte of its kind does

@@ -1,6 +1,5 @@
--- Two rooms side by side, state by state: a state of a moves as in a, one of b as in b, and a cell is found by the classes of a byte.
+-- Two rooms side by side, state by state: a state of a moves as in a, one of b as in b.
 --   next-left, next-right: where a byte leads
---   cell-left, cell-right, cell-next: the cell for a byte's classes is where that byte leads
 --   mark-left, mark-right, accepts-mark, mark-small: a state's mark, in its room
 --   side-both, side-left: all states are closed, and those of a alone are
 use Prim.Native.Nat.{ℕ, _+_, _-_, _≤_, _<_}
@@ -10,12 +9,11 @@ use mathlib.Core.List.{List}
 use native.Mathlib.Omega.{arith}
 use lib.Dec.{eqb, ltb}
 use Rattle.scope.specs.Limits.{marksAt}
-use Rattle.scope.specs.Machines.Room.{statesOf, cellOf, markOf, nextOf, machine, Sound}
+use Rattle.scope.specs.Machines.Room.{statesOf, markOf, nextOf, machine, Sound}
 use Rattle.scope.proofs.Counting.Tests.{which, split, below, not-below}
 use Rattle.scope.proofs.Machines.Run.{sound-closed}
 use Rattle.scope.proofs.Machines.Aside.{aside-closed}
-use Rattle.two_rooms.specs.Side.{both, cellIn, markIn, FirstStates}
-use Rattle.two_rooms.specs.Kinds.{Has}
+use Rattle.two_rooms.specs.Side.{both, markIn, FirstStates}
 
 module _ (a b : List ℕ) (q : ℕ) where
   -- a state of a moves as in a
@@ -25,21 +23,6 @@ module _ (a b : List ℕ) (q : ℕ) where
   -- and one of b as in b
   pub next-right : (x : ℕ) → statesOf a ≤ q → (both a b) .next q x ≡ statesOf a + nextOf b (q - statesOf a) x
   next-right x h = rw (not-below q (statesOf a) h) refl
-
-  -- a state of a has its cell in a
-  pub cell-left : (c d : ℕ) → q < statesOf a → cellIn a b q c d ≡ cellOf a q c
-  unfolding cellIn
-  cell-left c d h = rw (below q (statesOf a) .full h) refl
-
-  -- and one of b in b
-  pub cell-right : (c d : ℕ) → statesOf a ≤ q → cellIn a b q c d ≡ statesOf a + cellOf b (q - statesOf a) d
-  unfolding cellIn
-  cell-right c d h = rw (not-below q (statesOf a) h) refl
-
-  -- a byte leads to the cell for its classes
-  pub cell-next : (c d x : ℕ) → Has a b c d x → cellIn a b q c d ≡ (both a b) .next q x
-  unfolding cellIn nextOf
-  cell-next c d x h = rw (h .left, h .right) refl
 
   -- a state of a has its mark in a
   pub mark-left : q < statesOf a → markIn a b q ≡ markOf a q

@@ -1,16 +1,14 @@
 -- Kinds of bytes: two bytes are of one kind exactly if they have one class in the room a and one in the room b. Kinds are numbered by their least byte.
 --   pairOf a b x: the two classes of the byte x, as one number
 --   KindsOf a b kind least count: the kinds of the bytes: kind has the kind of each byte, least the least byte of each kind
---   Kinds a b least count: so for some list of the kind of each byte
+--   Kinds a b least count: so for some list of the kind of each byte; least has them all
 --   LevelStretch m x e: each byte from x up to e has the class of the byte before it, in the room m; stretch: so many bytes are passed over at once where they are level
 --   Most a b most: there are at most `most` kinds: the bytes have numbers below it, and those with one number are of one kind
---   Has a b c d x, Used a b left right i: the byte x has the classes c and d; some byte has those of the kind i
 --   Column m least column count: column has the class of the least byte of each kind in the room m
---   ColumnsOf a b left right count: left and right have the classes of each kind in a and in b, and of nothing else
 use Prim.Native.Nat.{ℕ, _+_, _-_, _*_, _≤_, _<_}
 use mathlib.Core.Path.{_≡_}
 use mathlib.Core.List.{List}
-use lib.ListN.{getD, replicate}
+use lib.ListN.{length, getD, replicate}
 use Rattle.scope.specs.Limits.{byteValues, classLimit}
 use Rattle.scope.specs.Machines.Room.{classOf}
 use Rattle.scope.specs.Operations.Buffers.{Written}
@@ -30,6 +28,7 @@ pub record KindsOf (a b kind least : List ℕ) (count : ℕ) : Type 0 where
   pub rising : (i j : ℕ) → j < count → i < j → getD least i 0 < getD least j 0
 
 pub record Kinds (a b least : List ℕ) (count : ℕ) : Type 0 where
+  pub long : count ≤ length least
   pub kind : List ℕ
   pub are : KindsOf a b kind least count
 
@@ -44,21 +43,5 @@ stretch = 16
 abbrev pub LevelStretch : List ℕ → ℕ → ℕ → Type 0
 LevelStretch m x e = (y : ℕ) → y < e → x ≤ y → classOf m y ≡ classOf m (y - 1)
 
--- the byte x has the classes c and d
-pub record Has (a b : List ℕ) (c d x : ℕ) : Type 0 where
-  pub is-byte : x < byteValues
-  pub left : c ≡ classOf a x
-  pub right : d ≡ classOf b x
-
--- some byte has the classes that the columns have for the kind i
-pub record Used (a b left right : List ℕ) (i : ℕ) : Type 0 where
-  pub byte : ℕ
-  pub has : Has a b (getD left i 0) (getD right i 0) byte
-
 abbrev pub Column : List ℕ → List ℕ → List ℕ → ℕ → Type 0
 Column m least column count = Written count (λ j. classOf m (getD least j 0)) (replicate byteValues 0) column
-
-pub record ColumnsOf (a b left right : List ℕ) (count : ℕ) : Type 0 where
-  pub few : count ≤ byteValues
-  pub used : (i : ℕ) → i < count → Used a b left right i
-  pub all : (x : ℕ) → x < byteValues → (i : ℕ) × (i < count) × Has a b (getD left i 0) (getD right i 0) x

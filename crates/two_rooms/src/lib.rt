@@ -9,8 +9,8 @@ ghost use Rattle.scope.specs.Limits.{byteValues};
 ghost use Rattle.scope.specs.Machines.Room.{statesOf, Below, Sound};
 ghost use Rattle.buffers.specs.Stored.{Decides};
 ghost use Rattle.buffers.specs.Numbered.{Found};
-ghost use Rattle.two_rooms.specs.Side.{both, cellIn, markIn};
-ghost use Rattle.two_rooms.specs.Kinds.{pairOf, stretch, LevelStretch, Kinds, Most, Column, Used};
+ghost use Rattle.two_rooms.specs.Side.{both, markIn};
+ghost use Rattle.two_rooms.specs.Kinds.{pairOf, stretch, LevelStretch, Kinds, Most, Column};
 
 // The most states that two rooms have.
 pub const STATES: usize = Machine::STATES + Machine::STATES;
@@ -40,27 +40,6 @@ pub fn mark(a: &[u8], b: &[u8], q: usize) -> u8
         a[Machine::MARKS_AT + q]
     } else {
         b[Machine::MARKS_AT + (q - s)]
-    }
-}
-
-// The state after q on the bytes of the kind i.
-pub fn cell(
-    a: &[u8],
-    b: &[u8],
-    left: &[u8; Machine::BYTES],
-    right: &[u8; Machine::BYTES],
-    q: usize,
-    i: usize,
-) -> usize
-    requires { ⌜ Sound (now a) × Sound (now b) ⌝ }
-    requires { ⌜ (q < statesOf (now a) + statesOf (now b)) × (i < byteValues) × Used (now a) (now b) (now left) (now right) i ⌝ }
-    ensures { λ r. ⌜ (r ≡ cellIn (now (a .entry)) (now (b .entry)) q (getD (now (left .entry)) i 0) (getD (now (right .entry)) i 0)) × (r < statesOf (now (a .entry)) + statesOf (now (b .entry))) ⌝ }
-{
-    let s = room::head(a).states;
-    if q < s {
-        room::cell(a, q, left[i])
-    } else {
-        s + room::cell(b, q - s, right[i])
     }
 }
 

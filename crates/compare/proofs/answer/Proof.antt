@@ -2,7 +2,7 @@
 use mathlib.Core.Path.{refl}
 use native.Mathlib.Omega.{arith}
 use borrow.Author.Needs.{needs}
-use Rattle.two_rooms.proofs.ByKind.{most-bytes, columns-of, least-bytes}
+use Rattle.two_rooms.proofs.ByKind.{most-bytes}
 use Rattle.two_rooms.proofs.Rooms.{side-both}
 use Rattle.compare.proofs.Results.{answer-twins, answer-same, answer-apart, answer-spells, answer-fits, answer-separated}
 use Rattle.compare.proofs.answer.Statement.{statement}
@@ -23,50 +23,44 @@ add-n c = let s = c .before .before .before .before .before .before .before .bef
 kinds-requires : tie.Need-kinds-requires
 kinds-requires c κs = (c .before .before .before .before .before .before .before .before .pre .0, most-bytes _ _)
 
-columns-requires : tie.Need-columns-requires
-columns-requires c κs = (c .before .before .before .before .before .before .before .before .before .before .before .before .pre .0 .0, (least-bytes (c .before .before .before .kinds .ensures), refl))
-
-columns-requires-2 : tie.Need-columns-requires-2
-columns-requires-2 c κs = (c .before .before .before .before .before .before .before .before .before .before .before .before .before .before .before .pre .0 .1, (least-bytes (c .before .before .before .before .before .before .kinds .ensures), refl))
-
 refine-requires : tie.Need-refine-requires
 refine-requires c κs =
-    let s = c .before .before .before .before .before .before .before .before .before .before .before .before .before .before .before .before .before .before .before .before .before .pre .0 in
-    (rw (c .before .before .before .before .before .before .before .before .before .before .before .before .before .before .before .head .ensures .0, c .before .before .before .before .before .before .before .before .before .before .before .before .before .before .head2 .ensures .0) (side-both _ _ (s .0) (s .1)), (columns-of (c .before .before .before .before .before .before .before .before .before .before .before .before .kinds .ensures) (c .before .before .before .before .before .before .before .before .columns .ensures) (c .before .before .before .before .before .columns2 .ensures), (refl, refl, refl)))
+    let s = c .before .before .before .before .before .before .before .before .before .before .before .before .before .before .before .pre .0 in
+    (rw (c .before .before .before .before .before .before .before .before .before .head .ensures .0, c .before .before .before .before .before .before .before .before .head2 .ensures .0) (side-both _ _ (s .0) (s .1)), (c .before .before .before .before .before .before .kinds .ensures, (refl, refl, refl)))
 
 mul-if2 : tie.Need-mul-if2
-mul-if2 c = omega (arith, c .before .before .before .before .before .before .before .before .before .before .before .before .before .before .before .before .before .before .before .before .before .before .pre .0 .0 .few-states, c .before .before .before .before .before .before .before .before .before .before .before .before .before .before .before .before .head .ensures .0)
+mul-if2 c = omega (arith, c .before .before .before .before .before .before .before .before .before .before .before .before .before .before .before .before .pre .0 .0 .few-states, c .before .before .before .before .before .before .before .before .before .before .head .ensures .0)
 
 array-read-if2-2 : tie.Need-array-read-if2-2
-array-read-if2-2 c = omega (arith, c .before .before .before .before .before .before .before .before .before .before .before .before .before .before .before .before .before .before .before .before .before .before .pre .0 .0 .few-states, c .before .before .before .before .before .before .before .before .before .before .before .before .before .before .before .before .head .ensures .0)
+array-read-if2-2 c = omega (arith, c .before .before .before .before .before .before .before .before .before .before .before .before .before .before .before .before .pre .0 .0 .few-states, c .before .before .before .before .before .before .before .before .before .before .head .ensures .0)
 
 returns-2 : tie.Need-returns-2
 returns-2 c =
-    let s = c .before .before .before .before .before .before .before .before .before .before .before .before .before .before .before .before .before .before .before .before .before .before .before .pre .0 in
-    let e = c .before .before .before .before .before .before .before .before .before .before .before .before .before .before .before .before .before .head .ensures .0 in
-    answer-same (s .0) (s .1) (rw (e, c .before .before .before .before .before .before .before .before .before .before .before .before .before .before .before .before .head2 .ensures .0) at (c .before .refine .ensures .0)) (rw e at (c .if2 .taken))
+    let s = c .before .before .before .before .before .before .before .before .before .before .before .before .before .before .before .before .before .pre .0 in
+    let e = c .before .before .before .before .before .before .before .before .before .before .before .head .ensures .0 in
+    answer-same (s .0) (s .1) (rw (e, c .before .before .before .before .before .before .before .before .before .before .head2 .ensures .0) at (c .before .refine .ensures .0)) (rw e at (c .if2 .taken))
 
 distance-requires : tie.Need-distance-requires
 distance-requires c κs =
-    let s = c .before .before .before .before .before .before .before .before .before .before .before .before .before .before .before .before .before .before .before .before .before .before .before .before .before .before .pre .0 in
-    let e = c .before .before .before .before .before .before .before .before .before .before .before .before .before .before .before .before .before .before .before .before .head .ensures .0 in
-    rw e (answer-apart (s .0) (s .1) (rw (e, c .before .before .before .before .before .before .before .before .before .before .before .before .before .before .before .before .before .before .before .head2 .ensures .0) at (c .before .before .before .before .refine .ensures .0)) (rw e at (c .before .before .before .if2 .left)))
+    let s = c .before .before .before .before .before .before .before .before .before .before .before .before .before .before .before .before .before .before .before .before .pre .0 in
+    let e = c .before .before .before .before .before .before .before .before .before .before .before .before .before .before .head .ensures .0 in
+    rw e (answer-apart (s .0) (s .1) (rw (e, c .before .before .before .before .before .before .before .before .before .before .before .before .before .head2 .ensures .0) at (c .before .before .before .before .refine .ensures .0)) (rw e at (c .before .before .before .if2 .left)))
 
 spell-requires : tie.Need-spell-requires
 spell-requires c κs =
-    let s = c .before .before .before .before .before .before .before .before .before .before .before .before .before .before .before .before .before .before .before .before .before .before .before .before .before .before .before .before .before .before .before .before .pre in
-    let h = c .before .before .before .before .before .before .before .before .before .before .before .before .before .before .before .before .before .before .before .before .before .before .before .before .before .before .head .ensures .0 in
-    let r = rw (h, c .before .before .before .before .before .before .before .before .before .before .before .before .before .before .before .before .before .before .before .before .before .before .before .before .before .head2 .ensures .0) at (c .before .before .before .before .before .before .before .before .before .before .refine .ensures .0) in
-    let e = rw h at (c .before .before .before .before .before .distance .ensures) in
-    (answer-spells (s .0 .0) (s .0 .1) r e, ((_, c .before .before .before .before .before .before .before .before .before .before .before .before .before .before .before .before .before .before .before .before .before .before .before .kinds .ensures), omega (arith, answer-fits (s .0 .0) (s .0 .1) r e, s .1)))
+    let s = c .before .before .before .before .before .before .before .before .before .before .before .before .before .before .before .before .before .before .before .before .before .before .before .before .before .before .before .pre in
+    let h = c .before .before .before .before .before .before .before .before .before .before .before .before .before .before .before .before .before .before .before .before .before .head .ensures .0 in
+    let r = rw (h, c .before .before .before .before .before .before .before .before .before .before .before .before .before .before .before .before .before .before .before .before .head2 .ensures .0) at (c .before .before .before .before .before .before .before .before .before .before .before .refine .ensures .0) in
+    let e = rw h at (c .before .before .before .before .before .before .distance .ensures) in
+    (answer-spells (s .0 .0) (s .0 .1) r e, ((_, c .before .before .before .before .before .before .before .before .before .before .before .before .before .before .before .before .before .before .kinds .ensures), omega (arith, answer-fits (s .0 .0) (s .0 .1) r e, s .1)))
 
 same-length : tie.Need-same-length
 same-length c = c .before .before .spell .ensures .written .size
 
 returns-3 : tie.Need-returns-3
 returns-3 c =
-    let s = c .before .before .before .before .before .before .before .before .before .before .before .before .before .before .before .before .before .before .before .before .before .before .before .before .before .before .before .before .before .before .before .before .before .before .before .pre .0 in
-    answer-separated (s .0) (s .1) (rw (c .before .before .before .before .before .before .before .before .before .before .before .before .before .before .before .before .before .before .before .before .before .before .before .before .before .before .before .before .before .head .ensures .0, c .before .before .before .before .before .before .before .before .before .before .before .before .before .before .before .before .before .before .before .before .before .before .before .before .before .before .before .before .head2 .ensures .0) at (c .before .before .before .before .before .before .before .before .before .before .before .before .before .refine .ensures .0)) (c .before .before .spell .ensures)
+    let s = c .before .before .before .before .before .before .before .before .before .before .before .before .before .before .before .before .before .before .before .before .before .before .before .before .before .before .before .before .before .before .pre .0 in
+    answer-separated (s .0) (s .1) (rw (c .before .before .before .before .before .before .before .before .before .before .before .before .before .before .before .before .before .before .before .before .before .before .before .before .head .ensures .0, c .before .before .before .before .before .before .before .before .before .before .before .before .before .before .before .before .before .before .before .before .before .before .before .head2 .ensures .0) at (c .before .before .before .before .before .before .before .before .before .before .before .before .before .before .refine .ensures .0)) (c .before .before .spell .ensures)
 
 pub answer-spec : {M : Type 1} → statement M
 answer-spec =
@@ -79,8 +73,6 @@ answer-spec =
     (λ c κs. search needs)
     add-n
     kinds-requires
-    columns-requires
-    columns-requires-2
     refine-requires
     (λ c. search needs)
     mul-if2

@@ -3,14 +3,14 @@ use Prim.Native.Nat.{ℕ, _-_, _≤_, _<_}
 use mathlib.Core.Path.{_≡_, refl, sym, _∙_}
 use mathlib.Core.Logic.{inl, inr}
 use mathlib.Core.List.{List}
-use native.Mathlib.Nat.{mul-le-mul}
 use native.Mathlib.Omega.{arith}
-use borrow.Author.Tests.{leb-true}
 use lib.ListN.{length, getD}
+use lib.Seq.{length-take-le}
 use Rattle.scope.specs.Operations.Buffers.{Written}
 use Rattle.scope.proofs.Counting.Tests.{split}
 use Rattle.scope.proofs.Counting.Lists.{zeros}
 use Rattle.two_rooms.specs.Side.{bothLimit, both, side}
+use Rattle.two_rooms.proofs.ByKind.{kinds-part}
 use Rattle.signs.specs.Signs.{Steady}
 use Rattle.signs.proofs.Signs.{steady-next}
 use Rattle.refinement.proofs.RoundTurns.{After, after-none, after-copied, after-more, after-few, after-own, after-done}
@@ -18,70 +18,73 @@ use Rattle.refinement.proofs.refine.Statement.{statement}
 use Rattle.refinement.proofs.refine.Tie as tie
 
 abbrev Inv-loop : tie.InvT-loop
-Inv-loop a b left right count n part₀ parent₀ born₀ few rows from touched₀ link₀ next₀ r₀ part parent born touched link next r =
+Inv-loop a b least count n part₀ parent₀ born₀ rows from touched₀ link₀ next₀ r₀ part parent born touched link next r =
     (length part ≡ bothLimit) × (length next ≡ bothLimit) × (length parent ≡ bothLimit) × (length born ≡ bothLimit) × After (side a b n) part parent born r × Steady ((both a b) .next) part n touched
     × ((q : ℕ) → q < n → getD next q 0 ≡ getD part q 0) × (length link ≡ bothLimit) × ((x : ℕ) → getD link x 0 ≡ 0)
 
 abbrev μ-loop : tie.MeasureT-loop
-μ-loop a b left right count n part₀ parent₀ born₀ few rows from touched₀ link₀ next₀ r₀ part parent born touched link next r = n - r
+μ-loop a b least count n part₀ parent₀ born₀ rows from touched₀ link₀ next₀ r₀ part parent born touched link next r = n - r
 
 -- there are at most n - 2 rounds
-few : (c : tie.At-loop Inv-loop μ-loop) → c .loop .r ≤ c .before .before .before .before .before .before .before .before .before .before .before .before .before .args .n - 2
-few c = after-few _ (c .before .before .before .before .before .before .before .before .before .before .before .before .before .pre .0 .closed) _ _ _ _ (c .loop .inv .4)
+few : (c : tie.At-loop Inv-loop μ-loop) → c .loop .r ≤ c .before .before .before .before .before .before .before .before .before .before .before .before .before .before .before .args .n - 2
+few c = after-few _ (c .before .before .before .before .before .before .before .before .before .before .before .before .before .before .before .pre .0 .closed) _ _ _ _ (c .loop .inv .4)
 
 -- and not more states than two rooms have
-states : (c : tie.After-shared-slice-known2 Inv-loop μ-loop) → c .before .before .args .n ≤ bothLimit
-states c = let d = c .before .before .pre .0 in omega (arith, d .few, d .left .few-states, d .right .few-states)
+states : (c : tie.After-shared-slice-known3 Inv-loop μ-loop) → c .before .before .before .args .n ≤ bothLimit
+states c = let d = c .before .before .before .pre .0 in omega (arith, d .few, d .left .few-states, d .right .few-states)
 
 -- links that are 0 from n on are 0 when the others are made so
 cleared : {n : ℕ} {link link′ : List ℕ} → Written n (λ q. 0) link link′ → ((x : ℕ) → n ≤ x → getD link x 0 ≡ 0) → (x : ℕ) → getD link′ x 0 ≡ 0
 cleared {n} w z x = elim (split x n) [ inl h ↦ w .inside x h | inr h ↦ w .outside x h ∙ z x h ]
 
-mul-few : tie.Need-mul-few Inv-loop μ-loop
-mul-few c = omega (arith, mul-le-mul (states c) (c .before .before .pre .1 .0 .few))
+slice-aggregate-note-all : tie.Need-slice-aggregate-note-all Inv-loop μ-loop
+slice-aggregate-note-all c = sym (length-take-le _ _ (c .before .before .before .before .pre .1 .0 .long))
 
 note-all-requires : tie.Need-note-all-requires Inv-loop μ-loop
-note-all-requires c κs = let d = c .before .before .before .before .pre in ((d .0, d .1 .0), ((refl, refl), λ e. leb-true _ _ e))
+note-all-requires c κs = let d = c .before .before .before .before .before .before .pre in ((d .0, kinds-part (d .1 .0)), (refl, refl))
 
 begin-requires : tie.Need-begin-requires Inv-loop μ-loop
-begin-requires c κs = let d = c .before .before .before .before .before .before .before .pre in (d .0, (c .before .before .note-all .ensures .1, d .1 .1 .0))
+begin-requires c κs = let d = c .before .before .before .before .before .before .before .before .before .pre in (d .0, (c .before .before .note-all .ensures .1, d .1 .1 .0))
 
 adopt-requires : tie.Need-adopt-requires Inv-loop μ-loop
-adopt-requires c κs = (states (c .before .before .before .before .before .before .before .before .before), refl, refl)
+adopt-requires c κs = (states (c .before .before .before .before .before .before .before .before .before .before), refl, refl)
 
 loop-holds : tie.Need-loop-holds Inv-loop μ-loop
 loop-holds c =
-    let z = c .before .before .before .before .before .before .before .before .before .before .before .before .pre .1 .1 in
+    let z = c .before .before .before .before .before .before .before .before .before .before .before .before .before .before .pre .1 .1 in
     let b = c .before .before .before .before .begin .ensures in
     let w = c .adopt .ensures in
     (b .0 .0, w .0 .size, rw (z .1) refl, rw (z .2) refl, rw (z .1, z .2) (after-none _ _ (b .0 .1)), b .1, w .0 .inside, w .1 .size, cleared (w .1) (λ x h. zeros bothLimit x))
 
+slice-aggregate-round : tie.Need-slice-aggregate-round Inv-loop μ-loop
+slice-aggregate-round c = sym (length-take-le _ _ (c .before .before .before .before .before .before .before .before .before .before .before .before .before .before .before .before .pre .1 .0 .long))
+
 add-round : tie.Need-add-round Inv-loop μ-loop
-add-round c = omega (arith, few (c .before .before .before .before .before .before .before .before), c .before .before .before .before .before .before .before .before .before .before .before .before .before .before .before .before .before .before .before .before .before .fits .n)
+add-round c = omega (arith, few (c .before .before .before .before .before .before .before .before .before), c .before .before .before .before .before .before .before .before .before .before .before .before .before .before .before .before .before .before .before .before .before .before .before .before .fits .n)
 
 cast-round : tie.Need-cast-round Inv-loop μ-loop
-cast-round c = omega (arith, few (c .before .before .before .before .before .before .before .before), states (c .before .before .before .before .before .before .before .before .before .before .before .before .before .before .before .before .before .before .before))
+cast-round c = omega (arith, few (c .before .before .before .before .before .before .before .before .before), states (c .before .before .before .before .before .before .before .before .before .before .before .before .before .before .before .before .before .before .before .before .before))
 
 round-requires : tie.Need-round-requires Inv-loop μ-loop
 round-requires c κs =
-    let d = c .before .before .before .before .before .before .before .before .before .before .before .before .before .before .before .before .before .before .before .before .before .pre in
-    let v = c .before .before .before .before .before .before .before .before .loop .inv in
-    (d .0, (d .1 .0, (c .before .before .before .before .before .before .before .before .before .before .before .before .before .before .before .before .note-all .ensures .0, (after-own _ (d .0 .closed) _ _ _ _ (v .4), ((v .1, v .2, v .3), (v .5, (v .6, (v .7, v .8))))))))
+    let d = c .before .before .before .before .before .before .before .before .before .before .before .before .before .before .before .before .before .before .before .before .before .before .before .before .pre in
+    let v = c .before .before .before .before .before .before .before .before .before .loop .inv in
+    (d .0, (kinds-part (d .1 .0), (c .before .before .before .before .before .before .before .before .before .before .before .before .before .before .before .before .before .note-all .ensures .0, (after-own _ (d .0 .closed) _ _ _ _ (v .4), ((v .1, v .2, v .3), (v .5, (v .6, (v .7, v .8))))))))
 
 adopt-requires-2 : tie.Need-adopt-requires-2 Inv-loop μ-loop
-adopt-requires-2 c κs = (omega (arith, states (c .before .before .before .before .before .before .before .before .before .before .before .before .before .before .before .before .before .before .before .before .before .before .before .before)), c .before .before .before .before .before .before .before .before .before .before .before .before .before .loop .inv .0, c .before .before .before .before .round .ensures .1 .1 .1 .1 .0)
+adopt-requires-2 c κs = (omega (arith, states (c .before .before .before .before .before .before .before .before .before .before .before .before .before .before .before .before .before .before .before .before .before .before .before .before .before .before)), c .before .before .before .before .before .before .before .before .before .before .before .before .before .before .loop .inv .0, c .before .before .before .before .round .ensures .1 .1 .1 .1 .0)
 
 add-r : tie.Need-add-r Inv-loop μ-loop
-add-r c = omega (arith, few (c .before .before .before .before .before .before .before .before .before .before .before .before .before .before), c .before .before .before .before .before .before .before .before .before .before .before .before .before .before .before .before .before .before .before .before .before .before .before .before .before .before .before .fits .n)
+add-r c = omega (arith, few (c .before .before .before .before .before .before .before .before .before .before .before .before .before .before .before), c .before .before .before .before .before .before .before .before .before .before .before .before .before .before .before .before .before .before .before .before .before .before .before .before .before .before .before .before .before .before .fits .n)
 
 loop-less : tie.Need-loop-less Inv-loop μ-loop
-loop-less c = omega (arith, few (c .before .before .before .before .before .before .before .before .before .before .before .before .before .before), c .before .before .before .before .before .before .before .before .before .before .before .before .before .before .before .before .before .before .before .before .before .before .before .before .before .before .before .pre .0 .closed .some)
+loop-less c = omega (arith, few (c .before .before .before .before .before .before .before .before .before .before .before .before .before .before .before), c .before .before .before .before .before .before .before .before .before .before .before .before .before .before .before .before .before .before .before .before .before .before .before .before .before .before .before .before .before .before .pre .0 .closed .some)
 
 loop-again : tie.Need-loop-again Inv-loop μ-loop
 loop-again c =
-    let a = c .before .before .before .before .before .before .before .before .before .before .before .before .before .before .before .before .before .before .before .before .before .before .before .before .before .before .before .args in
-    let d = c .before .before .before .before .before .before .before .before .before .before .before .before .before .before .before .before .before .before .before .before .before .before .before .before .before .before .before .pre .0 in
-    let v = c .before .before .before .before .before .before .before .before .before .before .before .before .before .before .loop .inv in
+    let a = c .before .before .before .before .before .before .before .before .before .before .before .before .before .before .before .before .before .before .before .before .before .before .before .before .before .before .before .before .before .before .args in
+    let d = c .before .before .before .before .before .before .before .before .before .before .before .before .before .before .before .before .before .before .before .before .before .before .before .before .before .before .before .before .before .before .pre .0 in
+    let v = c .before .before .before .before .before .before .before .before .before .before .before .before .before .before .before .loop .inv in
     let e = c .before .before .before .before .before .round .ensures in
     let w = c .adopt2 .ensures in (
       w .0 .size ∙ v .0,
@@ -89,7 +92,7 @@ loop-again c =
       e .1 .0 .parent-long ∙ v .2,
       e .1 .0 .born-long ∙ v .3,
       after-copied _ (w .0 .inside) (after-more _ (d .closed) _ _ _ _ (v .4) _ _ _ (e .0 .named) (e .1 .0) (e .1 .1 .1 .0 .yes (c .before .before .before .before .if1 .taken))),
-      steady-next {M = side (a .a .now) (a .b .now) (a .n)} (d .closed) (c .before .before .before .before .before .before .before .before .before .before .before .before .before .before .before .before .before .before .before .before .before .before .note-all .ensures .1) (e .0) (e .1 .1 .0) (w .0),
+      steady-next {M = side (a .a .now) (a .b .now) (a .n)} (d .closed) (c .before .before .before .before .before .before .before .before .before .before .before .before .before .before .before .before .before .before .before .before .before .before .before .note-all .ensures .1) (e .0) (e .1 .1 .0) (w .0),
       λ q h. sym (w .0 .inside q h),
       w .1 .size ∙ e .1 .1 .1 .1 .0,
       cleared (w .1) (e .1 .1 .1 .1 .1),
@@ -97,8 +100,8 @@ loop-again c =
 
 returns : tie.Need-returns Inv-loop μ-loop
 returns c =
-    let d = c .before .before .before .before .before .before .before .before .before .before .before .before .before .before .before .before .before .before .before .before .before .before .before .pre .0 in
-    let v = c .before .before .before .before .before .before .before .before .before .before .loop .inv in
+    let d = c .before .before .before .before .before .before .before .before .before .before .before .before .before .before .before .before .before .before .before .before .before .before .before .before .before .before .pre .0 in
+    let v = c .before .before .before .before .before .before .before .before .before .before .before .loop .inv in
     let e = c .before .round .ensures in
     (after-done _ (d .closed) _ _ _ _ (v .4) _ _ _ (e .0 .named) (e .1 .0) (e .1 .1 .1 .0 .no (c .if1 .left)), (v .0, e .1 .0 .parent-long ∙ v .2, e .1 .0 .born-long ∙ v .3))
 
@@ -108,11 +111,12 @@ refine-spec =
     (tie.spec
     Inv-loop
     μ-loop
-    mul-few
+    slice-aggregate-note-all
     note-all-requires
     begin-requires
     adopt-requires
     loop-holds
+    slice-aggregate-round
     add-round
     cast-round
     round-requires

@@ -8,34 +8,33 @@ use lib.ListN.{getD}
 use Rattle.two_rooms.specs.Side.{bothLimit, both}
 use Rattle.round.proofs.Passes.{passed-none, passed-stays, passed-joined, passed-opened}
 use Rattle.parting.proofs.Links.{place-still}
-use Rattle.parting.proofs.CellRows.{rows-less}
 use Rattle.signs.proofs.Signs.{signs-none, stayed-none, stayed-still, stayed-moved, seen-none, seen-all, seen-past}
 use Rattle.round.proofs.Gaps.{Come, come-as, come-gap}
 use Rattle.round.proofs.round.Statement.{statement}
 use Rattle.round.proofs.round.Tie as tie
 
 abbrev Inv-loop : tie.InvT-loop
-Inv-loop a b left right count few rows from part touched link₀ next₀ parent₀ born₀ n r opened₀ stirred₀ seen₀ q₀ link next parent born opened stirred seen q =
+Inv-loop a b least rows from part touched link₀ next₀ parent₀ born₀ n r opened₀ stirred₀ seen₀ q₀ link next parent born opened stirred seen q =
     (q ≤ n) × Come ((both a b) .next) part next₀ next link parent₀ parent born₀ born from r opened stirred touched seen q
 
 abbrev μ-loop : tie.MeasureT-loop
-μ-loop a b left right count few rows from part touched link₀ next₀ parent₀ born₀ n r opened₀ stirred₀ seen₀ q₀ link next parent born opened stirred seen q = n - q
+μ-loop a b least rows from part touched link₀ next₀ parent₀ born₀ n r opened₀ stirred₀ seen₀ q₀ link next parent born opened stirred seen q = n - q
 
 -- the state q is one of two rooms, and the name of its part no greater
-low : (c : tie.In-loop Inv-loop μ-loop) → (c .before .loop .q < bothLimit) × (getD (c .before .before .before .before .before .before .args .part .now) (c .before .loop .q) 0 ≤ c .before .loop .q)
-low c = let d = c .before .before .before .before .before .before .pre in
+low : (c : tie.In-loop Inv-loop μ-loop) → (c .before .loop .q < bothLimit) × (getD (c .before .before .before .before .before .before .before .args .part .now) (c .before .loop .q) 0 ≤ c .before .loop .q)
+low c = let d = c .before .before .before .before .before .before .before .pre in
     (omega (arith, c .loop-test .taken, d .0 .few, d .0 .left .few-states, d .0 .right .few-states), d .1 .1 .1 .0 (c .before .loop .q) (c .loop-test .taken) .low)
 
 -- there are not more states than two rooms have
-few : (c : tie.After-row-known Inv-loop μ-loop) → c .before .before .before .args .n ≤ bothLimit
-few c = let d = c .before .before .before .pre .0 in omega (arith, d .few, d .left .few-states, d .right .few-states)
+few : (c : tie.After-row-known Inv-loop μ-loop) → c .before .before .before .before .args .n ≤ bothLimit
+few c = let d = c .before .before .before .before .pre .0 in omega (arith, d .few, d .left .few-states, d .right .few-states)
 
 seek-requires : tie.Need-seek-requires Inv-loop μ-loop
 seek-requires c κs = (omega arith, few c)
 
 loop-holds : tie.Need-loop-holds Inv-loop μ-loop
-loop-holds c = let a = c .before .before .before .before .args in
-    let d = c .before .before .before .before .pre .1 .1 .1 in
+loop-holds c = let a = c .before .before .before .before .before .args in
+    let d = c .before .before .before .before .before .pre .1 .1 .1 in
     let e = c .seek .ensures in (
       e .1,
       come-gap (few (c .before)) (d .1 .0 .0) (d .0) (d .1 .1 .0) (d .1 .1 .1 .0) e
@@ -44,10 +43,10 @@ loop-holds c = let a = c .before .before .before .before .args in
 
 walk-requires : tie.Need-walk-requires Inv-loop μ-loop
 walk-requires c κs =
-    let d = c .before .before .before .before .before .before .before .before .before .before .before .before .before .pre in
+    let d = c .before .before .before .before .before .before .before .before .before .before .before .before .before .before .pre in
     let l = c .before .before .before .before .before .before .before .before .loop in
     let h = c .before .before .before .before .before .before .before .loop-test .taken in
-    ((d .0 .left, d .0 .right), (d .1 .0, ((λ e. rows-less (d .1 .1 .0 e) (l .q + 1) (omega (arith, h))), ((omega (arith, h, d .0 .few), d .1 .1 .1 .0 (l .q) h, c .before .before .before .before .before .if1 .taken), l .inv .1 .passed .chain))))
+    ((d .0 .left, d .0 .right), (d .1 .0, ((λ q i k. d .1 .1 .0 q i (omega (arith, h, k))), ((omega (arith, h, d .0 .few), d .1 .1 .1 .0 (l .q) h, c .before .before .before .before .before .if1 .taken), l .inv .1 .passed .chain))))
 
 mul-h : tie.Need-mul-h Inv-loop μ-loop
 mul-h c = omega (arith, low c)
@@ -68,10 +67,10 @@ shift-requires : tie.Need-shift-requires Inv-loop μ-loop
 shift-requires c κs = let z = low (c .before .before .before .before .before .before .before .before .before .before .before .before .before .before) in (z .0, omega (arith, z), omega (arith, z, c .before .before .before .before .before .before .walk .ensures .low))
 
 -- the state q is done
-come : (c : tie.Joined1 Inv-loop μ-loop) → let a = c .before .before .before .before .before .before .before .before .args in let i = c .if1 in
+come : (c : tie.Joined1 Inv-loop μ-loop) → let a = c .before .before .before .before .before .before .before .before .before .args in let i = c .if1 in
     Come ((both (a .a .now) (a .b .now)) .next) (a .part .now) (a .next .now) (i .next) (i .link) (a .parent .now) (i .parent) (a .born .now) (i .born) (a .from .now) (a .r) (i .opened) (i .stirred) (a .touched .now) (i .seen) (c .before .before .before .loop .q + 1)
-come c = let a = c .before .before .before .before .before .before .before .before .args in
-    let d = c .before .before .before .before .before .before .before .before .pre .1 .1 .1 in
+come c = let a = c .before .before .before .before .before .before .before .before .before .args in
+    let d = c .before .before .before .before .before .before .before .before .before .pre .1 .1 .1 in
     let g = d .1 .0 in
     let l = c .before .before .before .loop in
     let v = l .inv .1 in
@@ -123,12 +122,12 @@ loop-less : tie.Need-loop-less Inv-loop μ-loop
 loop-less c = omega (arith, c .seek2 .ensures .0, c .before .before .before .loop-test .taken)
 
 loop-again : tie.Need-loop-again Inv-loop μ-loop
-loop-again c = let d = c .before .before .before .before .before .before .before .before .before .pre .1 .1 .1 in
+loop-again c = let d = c .before .before .before .before .before .before .before .before .before .before .pre .1 .1 .1 in
     let e = c .seek2 .ensures in
     (e .1, come-gap (few (c .before .before .before .before .before .before)) (d .1 .0 .0) (d .0) (d .1 .1 .0) (d .1 .1 .1 .0) e (come (c .before)))
 
 returns : tie.Need-returns Inv-loop μ-loop
-returns c = let e : c .before .loop .q ≡ c .before .before .before .before .before .before .args .n = omega (arith, c .loop-test .left, c .before .loop .inv .0) in
+returns c = let e : c .before .loop .q ≡ c .before .before .before .before .before .before .before .args .n = omega (arith, c .loop-test .left, c .before .loop .inv .0) in
     let v = rw e at (c .before .loop .inv .1) in
     (v .passed .named, (v .passed .births, (v .stayed, (v .passed .some, (v .passed .link-long, v .passed .zero)))))
 

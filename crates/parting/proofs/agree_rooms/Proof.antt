@@ -1,0 +1,61 @@
+-- The kinds that were looked at lead both states into one part; what holds for each kind holds for every byte.
+use Prim.Native.Nat.{_≤_, _-_}
+use mathlib.Core.Path.{_≡_}
+use native.Mathlib.Omega.{arith}
+use borrow.Author.Needs.{needs}
+use lib.ListN.{length}
+use Rattle.buffers.proofs.OneMore.{holds, fails}
+use Rattle.two_rooms.specs.Side.{both}
+use Rattle.parting.proofs.Leading.{Led, led-more, led-all, led-apart}
+use Rattle.parting.proofs.agree_rooms.Statement.{statement}
+use Rattle.parting.proofs.agree_rooms.Tie as tie
+
+abbrev Inv-loop : tie.InvT-loop
+Inv-loop a b least part p q i₀ i = (i ≤ length least) × Led ((both a b) .next) least part p q i
+
+abbrev μ-loop : tie.MeasureT-loop
+μ-loop a b least part p q i₀ i = length least - i
+
+loop-holds : tie.Need-loop-holds Inv-loop μ-loop
+loop-holds c = (search needs, λ i h. absurd (omega arith))
+
+step-requires : tie.Need-step-requires Inv-loop μ-loop
+step-requires c κs = let d = c .before .before .before .before .before .before .pre in (d .0, d .1 .1 .0)
+
+step-requires-2 : tie.Need-step-requires-2 Inv-loop μ-loop
+step-requires-2 c κs = let d = c .before .before .before .before .before .before .before .pre in (d .0, d .1 .1 .1)
+
+mul-if1 : tie.Need-mul-if1 Inv-loop μ-loop
+mul-if1 c = search needs
+
+element-copy-out-if1 : tie.Need-element-copy-out-if1 Inv-loop μ-loop
+element-copy-out-if1 c = let d = c .before .before .before .before .before .before .before .before .pre .0 in
+    omega (arith, c .before .step .ensures .1, d .0 .few-states, d .1 .few-states)
+
+mul-if1-2 : tie.Need-mul-if1-2 Inv-loop μ-loop
+mul-if1-2 c = search needs
+
+element-copy-out-if1-2 : tie.Need-element-copy-out-if1-2 Inv-loop μ-loop
+element-copy-out-if1-2 c = let d = c .before .before .before .before .before .before .before .before .before .pre .0 in
+    omega (arith, c .before .step2 .ensures .1, d .0 .few-states, d .1 .few-states)
+
+returns : tie.Need-returns Inv-loop μ-loop
+returns c = fails (led-apart (c .before .before .before .before .before .before .before .before .before .before .before .pre .1 .0) _ _ _ (c .before .before .before .before .before .before .loop-test .taken) (c .before .before .before .before .step .ensures .0) (c .before .before .before .step2 .ensures .0) (c .if1 .taken))
+
+add-i : tie.Need-add-i Inv-loop μ-loop
+add-i c = search needs
+
+loop-less : tie.Need-loop-less Inv-loop μ-loop
+loop-less c = search needs
+
+loop-again : tie.Need-loop-again Inv-loop μ-loop
+loop-again c = let s = c .before .before .before .before .before .before .before .before .before .before .before .args in
+    (search needs, led-more ((both (s .a .now) (s .b .now)) .next) (s .least .now) (s .part .now) _ _ _ _ _ (c .before .before .before .before .step .ensures .0) (c .before .before .before .step2 .ensures .0) (c .before .before .before .before .before .before .before .loop .inv .1) (c .if1 .left))
+
+returns-2 : tie.Need-returns-2 Inv-loop μ-loop
+returns-2 c = let d = c .before .before .before .before .before in
+    let e : c .before .loop .i ≡ length (d .args .least .now) = omega arith in
+    holds (led-all (d .pre .1 .0) (d .pre .1 .1 .2) (rw e at (c .before .loop .inv .1)))
+
+pub agree-rooms-spec : {M : Type 1} → statement M
+agree-rooms-spec = tie.close (tie.spec Inv-loop μ-loop loop-holds (λ c. search needs) step-requires step-requires-2 mul-if1 element-copy-out-if1 mul-if1-2 element-copy-out-if1-2 returns add-i loop-less loop-again returns-2)
