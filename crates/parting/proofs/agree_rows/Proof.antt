@@ -1,6 +1,5 @@
--- The kinds that were looked at lead both states into one part, by their rows.
+-- The kinds from i on lead both states into one part, by their rows.
 use Prim.Native.Nat.{_+_, _*_, _-_, _≤_}
-use mathlib.Core.Path.{_≡_}
 use native.Mathlib.Nat.{mul-le-mul-right}
 use native.Mathlib.Omega.{arith}
 use borrow.Author.Needs.{needs}
@@ -16,18 +15,18 @@ abbrev Inv-loop : tie.InvT-loop
 Inv-loop a b least rows part p q count x y i₀ i = (i ≤ count) × Led ((both a b) .next) least part p q i
 
 abbrev μ-loop : tie.MeasureT-loop
-μ-loop a b least rows part p q count x y i₀ i = count - i
+μ-loop a b least rows part p q count x y i₀ i = i
 
 -- the row of p fits too
 fits : (c : tie.Start Inv-loop μ-loop) → c .args .p * length (c .args .least .now) + length (c .args .least .now) ≤ rowCells
 fits c = omega (arith, mul-le-mul-right (length (c .args .least .now)) (c .pre .1 .1 .0), c .pre .1 .0 .1)
 
 -- the cells of both states are there
-cell-p : (c : tie.In-loop Inv-loop μ-loop) → let s = c .before .before .args in RowCell ((both (s .a .now) (s .b .now)) .next) (s .least .now) (s .rows .now) (s .p) (c .before .loop .i)
-cell-p c = let d = c .before .before .pre .1 in d .0 .0 _ _ (omega (arith, d .1 .0)) (c .loop-test .taken) (fits (c .before .before))
+cell-p : (c : tie.In-loop Inv-loop μ-loop) → let s = c .before .before .args in RowCell ((both (s .a .now) (s .b .now)) .next) (s .least .now) (s .rows .now) (s .p) (c .before .loop .i - 1)
+cell-p c = let d = c .before .before .pre .1 in d .0 .0 _ _ (omega (arith, d .1 .0)) (omega arith) (fits (c .before .before))
 
-cell-q : (c : tie.In-loop Inv-loop μ-loop) → let s = c .before .before .args in RowCell ((both (s .a .now) (s .b .now)) .next) (s .least .now) (s .rows .now) (s .q) (c .before .loop .i)
-cell-q c = let d = c .before .before .pre .1 .0 in d .0 _ _ (omega arith) (c .loop-test .taken) (d .1)
+cell-q : (c : tie.In-loop Inv-loop μ-loop) → let s = c .before .before .args in RowCell ((both (s .a .now) (s .b .now)) .next) (s .least .now) (s .rows .now) (s .q) (c .before .loop .i - 1)
+cell-q c = let d = c .before .before .pre .1 .0 in d .0 _ _ (omega arith) (omega arith) (d .1)
 
 mul-x : tie.Need-mul-x Inv-loop μ-loop
 mul-x c = omega (arith, fits c)
@@ -36,7 +35,7 @@ mul-y : tie.Need-mul-y Inv-loop μ-loop
 mul-y c = omega (arith, c .pre .1 .0 .1)
 
 loop-holds : tie.Need-loop-holds Inv-loop μ-loop
-loop-holds c = (search needs, λ i h. absurd (omega arith))
+loop-holds c = (search needs, λ i h l. absurd (omega arith))
 
 add-if1 : tie.Need-add-if1 Inv-loop μ-loop
 add-if1 c = omega (arith, fits (c .before .before), c .loop-test .taken)
@@ -75,16 +74,16 @@ element-copy-out-if1-4 : tie.Need-element-copy-out-if1-4 Inv-loop μ-loop
 element-copy-out-if1-4 c = omega (arith, cell-p (c .before .before .before), cell-q (c .before .before .before))
 
 returns : tie.Need-returns Inv-loop μ-loop
-returns c = fails (led-apart (c .before .before .before .before .before .before .before .pre .0) _ _ _ (c .before .before .before .before .before .loop-test .taken) (cell-p (c .before .before .before .before .before) .is) (cell-q (c .before .before .before .before .before) .is) (c .if1 .taken))
+returns c = let k = c .before .before .before .before .before in fails (led-apart (k .before .before .pre .0) (k .before .loop .i - 1) _ _ (omega arith) (cell-p k .is) (cell-q k .is) (c .if1 .taken))
 
 loop-again : tie.Need-loop-again Inv-loop μ-loop
-loop-again c = let s = c .before .before .before .before .before .before .before .args in
-    (search needs, led-more ((both (s .a .now) (s .b .now)) .next) (s .least .now) (s .part .now) _ _ _ _ _ (cell-p (c .before .before .before .before .before) .is) (cell-q (c .before .before .before .before .before) .is) (c .before .before .before .before .before .before .loop .inv .1) (c .if1 .left))
+loop-again c = let k = c .before .before .before .before .before in
+    let l = k .before in
+    let s = l .before .args in
+    (search needs, led-more ((both (s .a .now) (s .b .now)) .next) (s .least .now) (s .part .now) _ _ {i = l .loop .i - 1} {e = l .loop .i} (omega arith) (cell-p k .is) (cell-q k .is) (l .loop .inv .1) (c .if1 .left))
 
 returns-2 : tie.Need-returns-2 Inv-loop μ-loop
-returns-2 c = let d = c .before .before in
-    let e : c .before .loop .i ≡ length (d .args .least .now) = omega arith in
-    holds (led-all (d .pre .0) (d .pre .1 .1 .1) (rw e at (c .before .loop .inv .1)))
+returns-2 c = let d = c .before .before in holds (led-all (d .pre .0) (omega arith) (d .pre .1 .1 .1) (c .before .loop .inv .1))
 
 pub agree-rows-spec : {M : Type 1} → statement M
 agree-rows-spec =
@@ -95,6 +94,7 @@ agree-rows-spec =
     mul-x
     mul-y
     loop-holds
+    (λ c. search needs)
     add-if1
     mul-if1
     element-copy-out-if1
@@ -108,7 +108,6 @@ agree-rows-spec =
     mul-if1-4
     element-copy-out-if1-4
     returns
-    (λ c. search needs)
     (λ c. search needs)
     loop-again
     returns-2)

@@ -37,9 +37,6 @@ states c = let d = c .before .before .before .pre .0 in omega (arith, d .few, d 
 cleared : {n : ℕ} {link link′ : List ℕ} → Written n (λ q. 0) link link′ → ((x : ℕ) → n ≤ x → getD link x 0 ≡ 0) → (x : ℕ) → getD link′ x 0 ≡ 0
 cleared {n} w z x = elim (split x n) [ inl h ↦ w .inside x h | inr h ↦ w .outside x h ∙ z x h ]
 
-slice-aggregate-note-all : tie.Need-slice-aggregate-note-all Inv-loop μ-loop
-slice-aggregate-note-all c = sym (length-take-le _ _ (c .before .before .before .before .pre .1 .0 .long))
-
 note-all-requires : tie.Need-note-all-requires Inv-loop μ-loop
 note-all-requires c κs = let d = c .before .before .before .before .before .before .pre in ((d .0, kinds-part (d .1 .0)), (refl, refl))
 
@@ -55,9 +52,6 @@ loop-holds c =
     let b = c .before .before .before .before .begin .ensures in
     let w = c .adopt .ensures in
     (b .0 .0, w .0 .size, rw (z .1) refl, rw (z .2) refl, rw (z .1, z .2) (after-none _ _ (b .0 .1)), b .1, w .0 .inside, w .1 .size, cleared (w .1) (λ x h. zeros bothLimit x))
-
-slice-aggregate-round : tie.Need-slice-aggregate-round Inv-loop μ-loop
-slice-aggregate-round c = sym (length-take-le _ _ (c .before .before .before .before .before .before .before .before .before .before .before .before .before .before .before .before .pre .1 .0 .long))
 
 add-round : tie.Need-add-round Inv-loop μ-loop
 add-round c = omega (arith, few (c .before .before .before .before .before .before .before .before .before), c .before .before .before .before .before .before .before .before .before .before .before .before .before .before .before .before .before .before .before .before .before .before .before .before .fits .n)
@@ -111,12 +105,12 @@ refine-spec =
     (tie.spec
     Inv-loop
     μ-loop
-    slice-aggregate-note-all
+    (λ c. sym (length-take-le _ _ (c .before .before .before .before .pre .1 .0 .long)))
     note-all-requires
     begin-requires
     adopt-requires
     loop-holds
-    slice-aggregate-round
+    (λ c. sym (length-take-le _ _ (c .before .before .before .before .before .before .before .before .before .before .before .before .before .before .before .before .pre .1 .0 .long)))
     add-round
     cast-round
     round-requires
