@@ -1,7 +1,7 @@
 // Whether two states of one part agree: each byte leads them into one part. And the least state that agrees with a given one.
 //
-// Two rooms stand side by side, the states of b after those of a. Only the least byte of each kind is tried, the last kind first: the first is that of the byte 0,
-// by which few patterns tell states apart. Where a byte leads is read from rows, one state after the other, as far as there is room for them; else from the rooms.
+// Two rooms stand side by side, the states of b after those of a. Only the least byte of each kind is tried. Where it leads is read from rows, one state after the
+// other, as far as there is room for them; else from the rooms.
 ghost use Prim.Native.Nat.{_+_, _*_, _≤_, _<_};
 ghost use lib.ListN.{length, getD};
 ghost use Rattle.scope.specs.Machines.Room.{statesOf, Sound};
@@ -29,20 +29,21 @@ fn agree_rooms(
     requires { ⌜ (p < statesOf (now a) + statesOf (now b)) × (q < statesOf (now a) + statesOf (now b)) × OnePart (now part) p q ⌝ }
     ensures { λ r. ⌜ Decides r (Agree ((both (now (a .entry)) (now (b .entry))) .next) (now (part .entry)) p q) ⌝ }
 {
-    let mut i = least.len();
-    while i > 0 {
-        i -= 1;
+    let mut i: usize = 0;
+    while i < least.len() {
         let x = least[i];
         let y = two_rooms::step(a, b, p, x);
         let z = two_rooms::step(a, b, q, x);
         if part[y] != part[z] {
             return false;
         }
+        i += 1;
     }
     true
 }
 
-// Whether each byte leads p and q, which lie in one part, into one part, by their rows, which fit.
+// Whether each byte leads p and q, which lie in one part, into one part, by their rows, which fit. The last kind is tried first: the first is that of the byte 0, by
+// which few patterns tell states apart.
 fn agree_rows(
     a: &[u8],
     b: &[u8],

@@ -1,4 +1,4 @@
--- The kinds from i on lead both states into one part; what holds for each kind holds for every byte.
+-- The kinds that were looked at lead both states into one part; what holds for each kind holds for every byte.
 use Prim.Native.Nat.{_≤_, _-_}
 use native.Mathlib.Omega.{arith}
 use borrow.Author.Needs.{needs}
@@ -10,10 +10,10 @@ use Rattle.parting.proofs.agree_rooms.Statement.{statement}
 use Rattle.parting.proofs.agree_rooms.Tie as tie
 
 abbrev Inv-loop : tie.InvT-loop
-Inv-loop a b least part p q i₀ i = (i ≤ length least) × Led ((both a b) .next) least part p q i
+Inv-loop a b least part p q i₀ i = (i ≤ length least) × Led ((both a b) .next) least part p q 0 i
 
 abbrev μ-loop : tie.MeasureT-loop
-μ-loop a b least part p q i₀ i = i
+μ-loop a b least part p q i₀ i = length least - i
 
 loop-holds : tie.Need-loop-holds Inv-loop μ-loop
 loop-holds c = (search needs, λ i h l. absurd (omega arith))
@@ -39,18 +39,20 @@ element-copy-out-if1-2 c = let d = c .before .before .before .before .before .be
     omega (arith, c .before .step2 .ensures .1, d .0 .few-states, d .1 .few-states)
 
 returns : tie.Need-returns Inv-loop μ-loop
-returns c = let l = c .before .before .before .before .before .before .before in fails (led-apart (l .before .before .before .before .pre .1 .0) (l .loop .i - 1) _ _ (omega arith) (c .before .before .before .before .step .ensures .0) (c .before .before .before .step2 .ensures .0) (c .if1 .taken))
+returns c = fails (led-apart (c .before .before .before .before .before .before .before .before .before .before .before .pre .1 .0) _ _ _ (c .before .before .before .before .before .before .loop-test .taken) (c .before .before .before .before .step .ensures .0) (c .before .before .before .step2 .ensures .0) (c .if1 .taken))
+
+add-i : tie.Need-add-i Inv-loop μ-loop
+add-i c = search needs
 
 loop-less : tie.Need-loop-less Inv-loop μ-loop
 loop-less c = search needs
 
 loop-again : tie.Need-loop-again Inv-loop μ-loop
-loop-again c = let l = c .before .before .before .before .before .before .before in
-    let s = l .before .before .before .before .args in
-    (search needs, led-more ((both (s .a .now) (s .b .now)) .next) (s .least .now) (s .part .now) _ _ {i = l .loop .i - 1} {e = l .loop .i} (omega arith) (c .before .before .before .before .step .ensures .0) (c .before .before .before .step2 .ensures .0) (l .loop .inv .1) (c .if1 .left))
+loop-again c = let s = c .before .before .before .before .before .before .before .before .before .before .before .args in
+    (search needs, led-more ((both (s .a .now) (s .b .now)) .next) (s .least .now) (s .part .now) _ _ (c .before .before .before .before .step .ensures .0) (c .before .before .before .step2 .ensures .0) (c .if1 .left) (c .before .before .before .before .before .before .before .loop .inv .1))
 
 returns-2 : tie.Need-returns-2 Inv-loop μ-loop
-returns-2 c = let d = c .before .before .before .before .before in holds (led-all (d .pre .1 .0) (omega arith) (d .pre .1 .1 .2) (c .before .loop .inv .1))
+returns-2 c = let d = c .before .before .before .before .before in holds (led-all (d .pre .1 .0) (omega arith) (omega arith) (d .pre .1 .1 .2) (c .before .loop .inv .1))
 
 pub agree-rooms-spec : {M : Type 1} → statement M
-agree-rooms-spec = tie.close (tie.spec Inv-loop μ-loop loop-holds (λ c. search needs) (λ c. search needs) step-requires step-requires-2 mul-if1 element-copy-out-if1 mul-if1-2 element-copy-out-if1-2 returns loop-less loop-again returns-2)
+agree-rooms-spec = tie.close (tie.spec Inv-loop μ-loop loop-holds (λ c. search needs) step-requires step-requires-2 mul-if1 element-copy-out-if1 mul-if1-2 element-copy-out-if1-2 returns add-i loop-less loop-again returns-2)

@@ -7,12 +7,12 @@ use lib.ListN.{length}
 use Rattle.buffers.proofs.OneMore.{holds, fails}
 use Rattle.two_rooms.specs.Side.{both}
 use Rattle.parting.specs.CellRows.{rowCells, RowCell}
-use Rattle.parting.proofs.Leading.{Led, led-more, led-all, led-apart}
+use Rattle.parting.proofs.Leading.{Led, led-before, led-all, led-apart}
 use Rattle.parting.proofs.agree_rows.Statement.{statement}
 use Rattle.parting.proofs.agree_rows.Tie as tie
 
 abbrev Inv-loop : tie.InvT-loop
-Inv-loop a b least rows part p q count x y i₀ i = (i ≤ count) × Led ((both a b) .next) least part p q i
+Inv-loop a b least rows part p q count x y i₀ i = (i ≤ count) × Led ((both a b) .next) least part p q i count
 
 abbrev μ-loop : tie.MeasureT-loop
 μ-loop a b least rows part p q count x y i₀ i = i
@@ -80,10 +80,10 @@ loop-again : tie.Need-loop-again Inv-loop μ-loop
 loop-again c = let k = c .before .before .before .before .before in
     let l = k .before in
     let s = l .before .args in
-    (search needs, led-more ((both (s .a .now) (s .b .now)) .next) (s .least .now) (s .part .now) _ _ {i = l .loop .i - 1} {e = l .loop .i} (omega arith) (cell-p k .is) (cell-q k .is) (l .loop .inv .1) (c .if1 .left))
+    (search needs, led-before ((both (s .a .now) (s .b .now)) .next) (s .least .now) (s .part .now) _ _ (cell-p k .is) (cell-q k .is) (c .if1 .left) (omega arith) (l .loop .inv .1))
 
 returns-2 : tie.Need-returns-2 Inv-loop μ-loop
-returns-2 c = let d = c .before .before in holds (led-all (d .pre .0) (omega arith) (d .pre .1 .1 .1) (c .before .loop .inv .1))
+returns-2 c = let d = c .before .before in holds (led-all (d .pre .0) (omega arith) (omega arith) (d .pre .1 .1 .1) (c .before .loop .inv .1))
 
 pub agree-rows-spec : {M : Type 1} → statement M
 agree-rows-spec =
