@@ -1,5 +1,5 @@
 -- A reading of the grammar from its first part on. The grammar recurses on the left, a reader goes from left to right: it has read a part, and a tail is left.
---   Opens s i: there is a `(` at i
+--   GroupAt s i: there is a `(` at i
 --   closesExpr, stops: the bytes that end an expression, and those that end a branch; the end of the text is one of them
 --   EndsLevel l b: an l does not go on with the byte b
 --   WholeLevel l s i j t: an l, with the tree t, that does not go on
@@ -15,8 +15,8 @@ use Rattle.scope.specs.Text.Grammar.{Level, atoms, factors, branches, exprs, Re
 use Rattle.scope.specs.Limits.{byteValues}
 use Rattle.scope.specs.Text.Tree.{Tree, starred, beside, either}
 
-abbrev pub Opens : List ℕ → ℕ → Type 0
-Opens s i = byte s i ≡ code "("
+abbrev pub GroupAt : List ℕ → ℕ → Type 0
+GroupAt s i = byte s i ≡ code "("
 
 unfoldable pub closesExpr : ByteSet
 closesExpr b = eqb b (code ")") || eqb b byteValues

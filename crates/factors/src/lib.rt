@@ -4,7 +4,7 @@ ghost use Prim.Native.Nat.{ℕ, _≤_};
 ghost use lib.ListN.{length};
 ghost use Rattle.scope.specs.Text.Grammar.{atoms};
 ghost use Rattle.sets.specs.Layout.{byteSets};
-ghost use Rattle.factors.specs.Tails.{Opens};
+ghost use Rattle.factors.specs.Tails.{GroupAt};
 ghost use Rattle.factors.specs.Answer.{Fit, Readable, Starred, Answer};
 use fragments::Fragment;
 use fragments::alone;
@@ -20,7 +20,7 @@ use leaves::text::escaped;
 
 // An atom other than one in parentheses.
 pub fn leaf(text: &[u8], at: usize, count: usize, bytes: &mut [u8]) -> Fragment
-    requires { ⌜ Readable atoms count (now text) at × (Opens (now text) at → ⊥) ⌝ }
+    requires { ⌜ Readable atoms count (now text) at × (GroupAt (now text) at → ⊥) ⌝ }
     requires { ⌜ byteSets ≤ length (now bytes) ⌝ }
     ensures { λ r. ⌜ ((w : List ℕ) → Answer atoms (now (text .entry)) at count (now (bytes .entry)) (now (bytes .exit)) w w r) ⌝ }
 {
