@@ -11,7 +11,7 @@ ghost use Rattle.scope.specs.Operations.Compile.{Compiles};
 ghost use Rattle.pattern.specs.PatternSets.{Faultless};
 ghost use Rattle.compile.specs.CompilePasses.{ReadsText, AnswersCompile};
 
-// Reads a text that was judged legal: its sets come into the scratch, First as what follows the start.
+// Reads a text that was judged faultless: its sets come into the scratch, First as what follows the start.
 fn read(text: &[u8], bytes: &mut [u8], words: &mut [u64]) -> Shape
     requires { ⌜ Faultless (now text) × Scratch (now bytes) (now words) ⌝ }
     ensures { λ r. ⌜ ReadsText (now (text .entry)) (now (bytes .entry)) (now (bytes .exit)) (now (words .entry)) (now (words .exit)) r ⌝ }
@@ -24,7 +24,7 @@ fn read(text: &[u8], bytes: &mut [u8], words: &mut [u64]) -> Shape
     shape
 }
 
-// Builds the machine of a text that was judged legal, and makes it smallest into the room.
+// Builds the machine of a text that was judged faultless, and makes it smallest into the room.
 fn build(text: &[u8], room: &mut [u8], bytes: &mut [u8], words: &mut [u64]) -> Compiled
     requires { ⌜ Faultless (now text) × Lent (now room) (now bytes) (now words) ⌝ }
     ensures { λ r. ⌜ AnswersCompile (now (text .entry)) (now (room .entry)) (now (room .exit)) (now (bytes .entry)) (now (bytes .exit)) (now (words .entry)) (now (words .exit)) (compiledNumber r) (compiledPlace r) ⌝ }
@@ -42,7 +42,7 @@ fn build(text: &[u8], room: &mut [u8], bytes: &mut [u8], words: &mut [u64]) -> C
     }
 }
 
-// Judges the text, and builds its machine if it is legal.
+// Judges the text, and builds its machine if it is faultless.
 fn answer(text: &[u8], room: &mut [u8], bytes: &mut [u8], words: &mut [u64]) -> Compiled
     requires { ⌜ Lent (now room) (now bytes) (now words) ⌝ }
     ensures { λ r. ⌜ AnswersCompile (now (text .entry)) (now (room .entry)) (now (room .exit)) (now (bytes .entry)) (now (bytes .exit)) (now (words .entry)) (now (words .exit)) (compiledNumber r) (compiledPlace r) ⌝ }

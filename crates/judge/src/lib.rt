@@ -4,7 +4,7 @@ ghost use Rattle.judge.specs.Faults.{Faults};
 use judge_state::Reading;
 use scope::Machine;
 
-// What a text is judged: legal, or the first fault in the order of judgement, with its place.
+// What a text is judged: faultless, or the first fault in the order of judgement, with its place.
 pub enum Judged {
     Faultless,
     Syntax(usize),
