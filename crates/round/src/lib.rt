@@ -12,7 +12,7 @@ ghost use Rattle.two_rooms.specs.Side.{bothLimit, both, FirstStates};
 ghost use Rattle.two_rooms.specs.Kinds.{Kinds};
 ghost use Rattle.parting.specs.Named.{Named, Renamed, OnePart, Agree};
 ghost use Rattle.parting.specs.CellRows.{CellRows};
-ghost use Rattle.signs.specs.Signs.{Steady, Stayed};
+ghost use Rattle.signs.specs.Signs.{Steady, Stayed, Seen, Calm};
 ghost use Rattle.round.specs.Round.{Opening, Joining, Opened, Births};
 
 // Gives the state q, whose part h begins, to the new part that p begins within it; whether that is q itself, born in round r. Then q is the last of the chain of h.
@@ -42,9 +42,39 @@ fn shift(
     true
 }
 
+// The next state from `at` on that is to be looked at, n if there is none: one that does not begin its part, where it or the state that does is touched. A state agrees
+// still with the one that begins its part where neither is; so where one that begins a part is, all that come after it are tried: `seen` has then every sign.
+fn looked(
+    part: &[u16; two_rooms::STATES],
+    touched: u64,
+    seen: &mut u64,
+    at: usize,
+    n: usize,
+) -> usize
+    requires { ⌜ (at ≤ n) × (n ≤ bothLimit) ⌝ }
+    requires { ⌜ Named (OnePart (now part)) (now part) n ⌝ }
+    requires { ⌜ Seen (now part) touched (now seen) at ⌝ }
+    ensures { λ q. ⌜ (at ≤ q) × (q ≤ n) × (q < n → getD (now (part .entry)) q 0 < q) ⌝ }
+    ensures { λ q. ⌜ Seen (now (part .entry)) touched (now (seen .exit)) q ⌝ }
+    ensures { λ q. ⌜ ((x : ℕ) → x < q → at ≤ x → Calm (now (part .entry)) touched x) ⌝ }
+{
+    let mut q = signs::seek(*seen, at, n);
+    while q < n {
+        let h = part[q] as usize;
+        if h < q {
+            if (signs::sign(q) | signs::sign(h)) & touched != 0 {
+                return q;
+            }
+        } else {
+            *seen = u64::MAX;
+        }
+        q = signs::seek(*seen, q + 1, n);
+    }
+    n
+}
+
 // One round, from part to next, which is the same before, with the births of round r; whether it opened a part. `touched` has the signs of the states that a byte leads
-// to one that moved in the last round, and then in this one. A state agrees still with the one that begins its part where neither is touched; so where one that begins
-// a part is, all that come after it are looked at. `link` is 0 before.
+// to one that moved in the last round, and then in this one. `link` is 0 before.
 pub fn round(
     a: &[u8],
     b: &[u8],
@@ -77,23 +107,17 @@ pub fn round(
     let mut opened = false;
     let mut stirred: u64 = 0;
     let mut seen = *touched;
-    let mut q = signs::seek(seen, 0, n);
+    let mut q = looked(part, *touched, &mut seen, 0, n);
     while q < n {
         let h = part[q] as usize;
-        if h < q {
-            if (signs::sign(q) | signs::sign(h)) & *touched != 0 {
-                let p = parting::walk(a, b, least, rows, part, link, q);
-                if p != h {
-                    stirred = stirred | from[q];
-                    if shift(q, h, p, r, link, next, parent, born) {
-                        opened = true;
-                    }
-                }
+        let p = parting::walk(a, b, least, rows, part, link, q);
+        if p != h {
+            stirred = stirred | from[q];
+            if shift(q, h, p, r, link, next, parent, born) {
+                opened = true;
             }
-        } else {
-            seen = u64::MAX;
         }
-        q = signs::seek(seen, q + 1, n);
+        q = looked(part, *touched, &mut seen, q + 1, n);
     }
     *touched = stirred;
     opened

@@ -4,9 +4,7 @@
 --   zeros-in, gap-more, gap-zeros, gap-none: states that are passed over
 --   steady-first, steady-next: before the first round the signs of the states that lead to one not of the first part are there; after a round, those of the states that lead to one that moved
 --   stayed-none, stayed-still, stayed-moved, stayed-gap: the signs of a round, state by state
---   Seen part touched seen q: seen has what touched has, and everything if a state below q that begins a part is touched
 --   seen-none, seen-all, seen-past, seen-gap: what is seen, state by state
---   seen-calm: a state that is passed over is not touched, nor is that which begins its part
 use Prim.Native.Nat.{ℕ, _+_, _-_, _/_, _%_, _^_, _≤_, _<_}
 use mathlib.Core.Path.{_≡_, refl, sym, ap, _∙_}
 use mathlib.Core.Bool.{true, false, _&&_, or-true, true≢false}
@@ -29,8 +27,8 @@ use Rattle.scope.proofs.Positions.Bits.{has-or, has-pow, has-zero, has-ones, ha
 use Rattle.scope.proofs.Positions.Moves.{has-and}
 use Rattle.scope.proofs.Counting.Tests.{split, which}
 use Rattle.scope.specs.Limits.{byteValues}
-use Rattle.parting.specs.Named.{LeastLike, Renamed, OnePart, Agree}
-use Rattle.signs.specs.Signs.{signs, Gap, Sources, Steady, Stayed}
+use Rattle.parting.specs.Named.{Named, Renamed, OnePart, Agree}
+use Rattle.signs.specs.Signs.{signs, Gap, Sources, Steady, Stayed, Seen, Calm}
 use Rattle.parting.proofs.Names.{named-same, agree-itself, agree-flip, agree-chain}
 
 -- ---- bits
@@ -133,42 +131,28 @@ module _ {old new from : List ℕ} {q s : ℕ} (d : Stayed old new from q s) whe
 
 -- ---- what is seen
 
-pub record Seen (part : List ℕ) (touched seen q : ℕ) : Type 0 where
-  pub more : (k : ℕ) → k < signs → has seen k ≡ false → has touched k ≡ false
-  pub begun : (h k : ℕ) → h < q → getD part h 0 ≡ h → k < signs → has seen k ≡ false → has touched (h % signs) ≡ false
-
 pub seen-none : (part : List ℕ) (touched : ℕ) → Seen part touched touched 0
-seen-none part touched = record { more = λ k l e. e; begun = λ h k l. absurd (omega arith) }
+seen-none part touched = record { unseen = λ k l e. (e, λ h m. absurd (omega arith)) }
 
 -- everything
 pub seen-all : (part : List ℕ) (touched q : ℕ) → Seen part touched 18446744073709551615 q
-seen-all part touched q = record { more = λ k l e. absurd (none k l e); begun = λ h k l e m z. absurd (none k m z) }
-  where
-    none : (k : ℕ) → k < signs → has 18446744073709551615 k ≡ false → ⊥
-    none k l e = true≢false (sym (has-ones 64 k l) ∙ e)
+seen-all part touched q = record { unseen = λ k l e. absurd (true≢false (sym (has-ones 64 k l) ∙ e)) }
 
 module _ {part : List ℕ} {touched seen q : ℕ} (d : Seen part touched seen q) where
   -- a state that begins no part
   pub seen-past : getD part q 0 < q → Seen part touched seen (q + 1)
-  seen-past l = record {
-    more = d .more;
-    begun = λ h k m. below-more (λ (h : ℕ). getD part h 0 ≡ h → k < signs → has seen k ≡ false → has touched (h % signs) ≡ false) q (λ h n. d .begun h k n) (λ e. absurd (omega arith)) h m;
-  }
+  seen-past l = record { unseen = λ k m e. let (t, b) = d .unseen k m e in (t, below-more (λ (h : ℕ). getD part h 0 ≡ h → has touched (h % signs) ≡ false) q b (λ z. absurd (omega arith))) }
 
   module _ (r : ℕ) (g : Gap seen q r) where
-    calm : (x : ℕ) → x < r → q ≤ x → has touched (x % signs) ≡ false
-    calm x h l = d .more (x % signs) (mod-lt x (lit< tt)) (g x h l)
+    over : Seen part touched seen r
+    over = record { unseen = λ k m e. let (t, b) = d .unseen k m e in (t, λ h l z. elim (split h q) [ inl n ↦ b h n z | inr n ↦ d .unseen (h % signs) (mod-lt h (lit< tt)) (g h l n) .0 ]) }
 
-    -- states that are passed over
-    pub seen-gap : Seen part touched seen r
-    seen-gap = record { more = d .more; begun = λ h k l e m z. elim (split h q) [ inl n ↦ d .begun h k n e m z | inr n ↦ calm h l n ] }
-
-    -- none of them is touched, nor is that which begins its part
-    pub seen-calm : (x : ℕ) → x < r → q ≤ x → LeastLike (OnePart part) x (getD part x 0) → (has touched (getD part x 0 % signs) ≡ false) × (has touched (x % signs) ≡ false)
-    seen-calm x h l f = (
-      elim (split (getD part x 0) q) [
-        | inl n ↦ d .begun (getD part x 0) (x % signs) n (f .like) (mod-lt x (lit< tt)) (g x h l)
-        | inr n ↦ calm (getD part x 0) (omega (arith, f .low)) n
+    -- states that are passed over, which are calm as those before them
+    pub seen-gap : {e n : ℕ} → Named (OnePart part) part n → r ≤ n → ((x : ℕ) → x < q → e ≤ x → Calm part touched x) → Seen part touched seen r × ((x : ℕ) → x < r → e ≤ x → Calm part touched x)
+    seen-gap named low c = (
+      over,
+      λ x h l k. elim (split x q) [
+        | inl m ↦ c x m l k
+        | inr m ↦ (let (t, b) = over .unseen (x % signs) (mod-lt x (lit< tt)) (g x h m) in (t, b (getD part x 0) (omega arith) (named x (omega arith) .like)))
       ],
-      calm x h l,
     )

@@ -5,6 +5,8 @@
 --   SignNoted next q from from′: from′ has besides the sign of q, with each state to which a byte leads it
 --   Steady next part n s: two states of one part agree if the sign of neither is in s
 --   Stayed old new from n s: if one of the signs that from has with a state is not in s, the state has the part that it had
+--   Seen part touched seen q: seen has what touched has, and everything if a state below q that begins a part is touched
+--   Calm part touched x: if x begins no part, neither it nor the state that begins its part is touched
 use Prim.Native.Nat.{ℕ, _%_, _≤_, _<_}
 use mathlib.Core.Path.{_≡_}
 use mathlib.Core.Bool.{true, false}
@@ -32,3 +34,9 @@ pub record Steady (next : ℕ → ℕ → ℕ) (part : List ℕ) (n s : ℕ) : T
 
 pub record Stayed (old new from : List ℕ) (n s : ℕ) : Type 0 where
   pub part : (q k : ℕ) → q < n → has (getD from q 0) k ≡ true → has s k ≡ false → getD new q 0 ≡ getD old q 0
+
+pub record Seen (part : List ℕ) (touched seen q : ℕ) : Type 0 where
+  pub unseen : (k : ℕ) → k < signs → has seen k ≡ false → (has touched k ≡ false) × ((h : ℕ) → h < q → getD part h 0 ≡ h → has touched (h % signs) ≡ false)
+
+abbrev pub Calm : List ℕ → ℕ → ℕ → Type 0
+Calm part touched x = getD part x 0 < x → (has touched (x % signs) ≡ false) × (has touched (getD part x 0 % signs) ≡ false)
