@@ -1,5 +1,6 @@
 -- One element more: the laws of the loops, and what they give at the end.
 --   holds, fails: a test that came out; and-true, and-false: a second test after it
+--   each-more, each-not: a test of all numbers so far, with one more of which it holds, or not
 --   stored-none, stored-more, stored-then: nothing stored; one element more; two parts side by side
 --   stored-from, stored-next: nothing, and one element more, by how far it is from the start
 --   stored-written, written-stored: stored from the start on, as scope says it; written-start, written-more: nothing is written, one element more
@@ -45,6 +46,15 @@ and-true d t e z = rw z (record { yes = λ u. (d .yes t, e .yes u); no = λ u p.
 -- where it fails, both fail
 pub and-false : {a r : Bool} {A B : Type 0} → Decides a A → a ≡ false → r ≡ a → Decides r (A × B)
 and-false d t z = rw (z, t) (fails (λ p. d .no t (p .0)))
+
+module _ (P : ℕ → Type 0) {e i : ℕ} {b : Bool} (low : e ≤ i) (d : Decides b ((j : ℕ) → j < i → e ≤ j → P j)) where
+  -- a test of all numbers from e on, with one more of which it holds
+  pub each-more : P i → Decides b ((j : ℕ) → j < i + 1 → e ≤ j → P j)
+  each-more h = record { yes = λ t. below-more (λ (j : ℕ). e ≤ j → P j) i (d .yes t) (λ l. h); no = λ t f. d .no t (λ j k l. f j (omega arith) l) }
+
+  -- or not
+  pub each-not : (P i → ⊥) → Decides false ((j : ℕ) → j < i + 1 → e ≤ j → P j)
+  each-not n = fails (λ f. n (f i (omega arith) low))
 
 -- nothing is stored
 pub stored-none : (m : List ℕ) (from : ℕ) (f : ℕ → ℕ) → Stored m m from from f

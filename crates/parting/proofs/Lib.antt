@@ -1,5 +1,4 @@
 -- The laws behind agreeing, each file after what it needs.
 pub mod Names
 pub mod Leading
-pub mod CellRows
 pub mod Links

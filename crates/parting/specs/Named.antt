@@ -4,6 +4,7 @@
 --   Renamed R part part′ n: part′ has them, and from n on what part had
 --   OnePart part p q: p and q lie in one part
 --   Agree next part p q: and each byte leads them into one part
+--   Led next least part p q e f: the bytes of least from e up to f do
 use Prim.Native.Nat.{ℕ, _≤_, _<_}
 use mathlib.Core.Path.{_≡_}
 use mathlib.Core.List.{List}
@@ -29,3 +30,6 @@ OnePart part p q = getD part p 0 ≡ getD part q 0
 pub record Agree (next : ℕ → ℕ → ℕ) (part : List ℕ) (p q : ℕ) : Type 0 where
   pub here : OnePart part p q
   pub there : (x : ℕ) → x < byteValues → OnePart part (next p x) (next q x)
+
+abbrev pub Led : (ℕ → ℕ → ℕ) → List ℕ → List ℕ → ℕ → ℕ → ℕ → ℕ → Type 0
+Led next least part p q e f = (i : ℕ) → i < f → e ≤ i → OnePart part (next p (getD least i 0)) (next q (getD least i 0))

@@ -1,49 +1,39 @@
 // Whether two states of one part agree: each byte leads them into one part. And the least state that agrees with a given one.
 //
-// Two rooms stand side by side, the states of b after those of a. Only the least byte of each kind is tried. Where it leads is read from rows, one state after the
-// other, as far as there is room for them; else from the rooms.
-ghost use Prim.Native.Nat.{_+_, _*_, _≤_, _<_};
+// Two rooms stand side by side, the states of b after those of a. Only a byte of each kind is tried. Where the first few of them lead is read from rows, one state
+// after the other; where the others do, from the rooms.
+ghost use mathlib.Core.Path.{_≡_};
+ghost use Prim.Native.Nat.{_+_, _≤_, _<_};
 ghost use lib.ListN.{length, getD};
 ghost use Rattle.scope.specs.Machines.Room.{statesOf, Sound};
 ghost use Rattle.buffers.specs.Stored.{Decides};
-ghost use Rattle.two_rooms.specs.Side.{both};
-ghost use Rattle.two_rooms.specs.Kinds.{Kinds};
-ghost use Rattle.parting.specs.Named.{LeastLike, OnePart, Agree};
-ghost use Rattle.parting.specs.CellRows.{rowCells, CellRows};
+ghost use Rattle.two_rooms.specs.Side.{bothLimit, both};
+ghost use Rattle.two_rooms.specs.Kinds.{EachKind};
+ghost use Rattle.parting.specs.Named.{LeastLike, OnePart, Agree, Led};
+ghost use Rattle.parting.specs.CellRows.{rowWidth, rowCells, CellRows};
 ghost use Rattle.parting.specs.Chain.{Chain};
 
-// How many cells there is room for in rows. Most pairs of machines have fewer.
-pub const ROWS: usize = 1024;
+// How many cells a row has, and the rows of all states. Most states that differ do so by the first few kinds.
+pub const ROW: usize = 4;
 
-// Whether each byte leads p and q, which lie in one part, into one part, by the rooms.
-fn agree_rooms(
-    a: &[u8],
-    b: &[u8],
-    least: &[u8],
-    part: &[u16; two_rooms::STATES],
-    p: usize,
-    q: usize,
-) -> bool
+pub const ROWS: usize = two_rooms::STATES * ROW;
+
+// Writes the row of the state q behind those of the states before it.
+pub fn write_row(a: &[u8], b: &[u8], least: &[u8], q: usize, rows: &mut [u16; ROWS])
     requires { ⌜ Sound (now a) × Sound (now b) ⌝ }
-    requires { ⌜ Kinds (now a) (now b) (now least) (length (now least)) ⌝ }
-    requires { ⌜ (p < statesOf (now a) + statesOf (now b)) × (q < statesOf (now a) + statesOf (now b)) × OnePart (now part) p q ⌝ }
-    ensures { λ r. ⌜ Decides r (Agree ((both (now (a .entry)) (now (b .entry))) .next) (now (part .entry)) p q) ⌝ }
+    requires { ⌜ (q < statesOf (now a) + statesOf (now b)) × (rowWidth ≤ length (now least)) ⌝ }
+    requires { ⌜ (length (now rows) ≡ rowCells) × CellRows ((both (now a) (now b)) .next) (now least) (now rows) q ⌝ }
+    ensures { λ _. ⌜ (length (now (rows .exit)) ≡ rowCells) × CellRows ((both (now (a .entry)) (now (b .entry))) .next) (now (least .entry)) (now (rows .exit)) (q + 1) ⌝ }
 {
+    let x = q * ROW;
     let mut i: usize = 0;
-    while i < least.len() {
-        let x = least[i];
-        let y = two_rooms::step(a, b, p, x);
-        let z = two_rooms::step(a, b, q, x);
-        if part[y] != part[z] {
-            return false;
-        }
+    while i < ROW {
+        rows[x + i] = two_rooms::step(a, b, q, least[i]) as u16;
         i += 1;
     }
-    true
 }
 
-// Whether each byte leads p and q, which lie in one part, into one part, by their rows, which fit. The last kind is tried first: the first is that of the byte 0, by
-// which few patterns tell states apart.
+// Whether the bytes whose cells are in the rows lead p and q into one part. All are tried: a test after each would be foreseen worse than one after all.
 fn agree_rows(
     a: &[u8],
     b: &[u8],
@@ -53,20 +43,45 @@ fn agree_rows(
     p: usize,
     q: usize,
 ) -> bool
-    requires { ⌜ Kinds (now a) (now b) (now least) (length (now least)) ⌝ }
-    requires { ⌜ CellRows ((both (now a) (now b)) .next) (now least) (now rows) (q + 1) × (q * length (now least) + length (now least) ≤ rowCells) ⌝ }
-    requires { ⌜ (p ≤ q) × OnePart (now part) p q ⌝ }
-    ensures { λ r. ⌜ Decides r (Agree ((both (now (a .entry)) (now (b .entry))) .next) (now (part .entry)) p q) ⌝ }
+    requires { ⌜ CellRows ((both (now a) (now b)) .next) (now least) (now rows) (q + 1) ⌝ }
+    requires { ⌜ (p ≤ q) × (q < bothLimit) ⌝ }
+    ensures { λ r. ⌜ Decides r (Led ((both (now (a .entry)) (now (b .entry))) .next) (now (least .entry)) (now (part .entry)) p q 0 rowWidth) ⌝ }
 {
-    let count = least.len();
-    let x = p * count;
-    let y = q * count;
-    let mut i = count;
-    while i > 0 {
-        i -= 1;
+    let x = p * ROW;
+    let y = q * ROW;
+    let mut same = true;
+    let mut i: usize = 0;
+    while i < ROW {
         if part[rows[x + i] as usize] != part[rows[y + i] as usize] {
+            same = false;
+        }
+        i += 1;
+    }
+    same
+}
+
+// Whether the other bytes lead p and q into one part, by the rooms.
+fn agree_rooms(
+    a: &[u8],
+    b: &[u8],
+    least: &[u8],
+    part: &[u16; two_rooms::STATES],
+    p: usize,
+    q: usize,
+) -> bool
+    requires { ⌜ Sound (now a) × Sound (now b) ⌝ }
+    requires { ⌜ (p < statesOf (now a) + statesOf (now b)) × (q < statesOf (now a) + statesOf (now b)) ⌝ }
+    ensures { λ r. ⌜ Decides r (Led ((both (now (a .entry)) (now (b .entry))) .next) (now (least .entry)) (now (part .entry)) p q rowWidth (length (now (least .entry)))) ⌝ }
+{
+    let mut i = ROW;
+    while i < least.len() {
+        let x = least[i];
+        let y = two_rooms::step(a, b, p, x);
+        let z = two_rooms::step(a, b, q, x);
+        if part[y] != part[z] {
             return false;
         }
+        i += 1;
     }
     true
 }
@@ -82,17 +97,12 @@ fn agree(
     q: usize,
 ) -> bool
     requires { ⌜ Sound (now a) × Sound (now b) ⌝ }
-    requires { ⌜ Kinds (now a) (now b) (now least) (length (now least)) ⌝ }
+    requires { ⌜ EachKind ((both (now a) (now b)) .next) (now least) × (rowWidth ≤ length (now least)) ⌝ }
     requires { ⌜ CellRows ((both (now a) (now b)) .next) (now least) (now rows) (q + 1) ⌝ }
     requires { ⌜ (p ≤ q) × (q < statesOf (now a) + statesOf (now b)) × OnePart (now part) p q ⌝ }
     ensures { λ r. ⌜ Decides r (Agree ((both (now (a .entry)) (now (b .entry))) .next) (now (part .entry)) p q) ⌝ }
 {
-    let count = least.len();
-    if q * count + count <= ROWS {
-        agree_rows(a, b, least, rows, part, p, q)
-    } else {
-        agree_rooms(a, b, least, part, p, q)
-    }
+    agree_rows(a, b, least, rows, part, p, q) && agree_rooms(a, b, least, part, p, q)
 }
 
 // The least state that agrees with q, which does not begin its part; from the state that does, link leads to all below q that begin new parts within it.
@@ -106,7 +116,7 @@ pub fn walk(
     q: usize,
 ) -> usize
     requires { ⌜ Sound (now a) × Sound (now b) ⌝ }
-    requires { ⌜ Kinds (now a) (now b) (now least) (length (now least)) ⌝ }
+    requires { ⌜ EachKind ((both (now a) (now b)) .next) (now least) × (rowWidth ≤ length (now least)) ⌝ }
     requires { ⌜ CellRows ((both (now a) (now b)) .next) (now least) (now rows) (q + 1) ⌝ }
     requires { ⌜ (q < statesOf (now a) + statesOf (now b)) × LeastLike (OnePart (now part)) q (getD (now part) q 0) × (getD (now part) q 0 < q) ⌝ }
     requires { ⌜ Chain (Agree ((both (now a) (now b)) .next) (now part)) (now part) (now link) q ⌝ }

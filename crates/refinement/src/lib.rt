@@ -12,6 +12,7 @@ ghost use Rattle.scope.specs.Machines.Room.{Sound};
 ghost use Rattle.scope.specs.Operations.Buffers.{Written};
 ghost use Rattle.two_rooms.specs.Side.{bothLimit, side, FirstStates};
 ghost use Rattle.two_rooms.specs.Kinds.{Kinds};
+ghost use Rattle.parting.specs.CellRows.{rowWidth};
 ghost use Rattle.refinement.specs.Refined.{Refined, RefinedAlone};
 
 // The most states that two rooms have.
@@ -28,6 +29,17 @@ fn adopt(from: &[u16; STATES], part: &mut [u16; STATES], link: &mut [u16; STATES
         part[q] = from[q];
         link[q] = 0;
         q += 1;
+    }
+}
+
+// How many of the least bytes are tried: one of each kind, and as many as a row has. Behind the kinds they are some bytes.
+fn tried(count: usize) -> usize
+    ensures { λ r. ⌜ (count ≤ r) × (rowWidth ≤ r) × (count ≤ byteValues → r ≤ byteValues) ⌝ }
+{
+    if count < parting::ROW {
+        parting::ROW
+    } else {
+        count
     }
 }
 
@@ -51,7 +63,8 @@ pub fn refine(
 {
     let mut rows = [0u16; parting::ROWS];
     let mut from = [0u64; STATES];
-    signs::note_all(a, b, &least[..count], n, &mut rows, &mut from);
+    let m = tried(count);
+    signs::note_all(a, b, &least[..m], n, &mut rows, &mut from);
     let mut touched = signs::begin(a, b, &from, n, part);
     let mut link = [0u16; STATES];
     let mut next = [0u16; STATES];
@@ -60,7 +73,7 @@ pub fn refine(
     while round::round(
         a,
         b,
-        &least[..count],
+        &least[..m],
         &rows,
         &from,
         part,

@@ -9,9 +9,9 @@ ghost use Prim.Native.Nat.{ℕ, _≤_, _<_};
 ghost use lib.ListN.{length, getD, set};
 ghost use Rattle.buffers.specs.Stored.{Decides};
 ghost use Rattle.two_rooms.specs.Side.{bothLimit, both, FirstStates};
-ghost use Rattle.two_rooms.specs.Kinds.{Kinds};
+ghost use Rattle.two_rooms.specs.Kinds.{EachKind};
 ghost use Rattle.parting.specs.Named.{Named, Renamed, OnePart, Agree};
-ghost use Rattle.parting.specs.CellRows.{CellRows};
+ghost use Rattle.parting.specs.CellRows.{rowWidth, CellRows};
 ghost use Rattle.signs.specs.Signs.{Steady, Stayed, Seen, Calm};
 ghost use Rattle.round.specs.Round.{Opening, Joining, Opened, Births};
 
@@ -91,7 +91,7 @@ pub fn round(
     r: u16,
 ) -> bool
     requires { ⌜ FirstStates (now a) (now b) n ⌝ }
-    requires { ⌜ Kinds (now a) (now b) (now least) (length (now least)) ⌝ }
+    requires { ⌜ EachKind ((both (now a) (now b)) .next) (now least) × (rowWidth ≤ length (now least)) ⌝ }
     requires { ⌜ CellRows ((both (now a) (now b)) .next) (now least) (now rows) n ⌝ }
     requires { ⌜ Named (OnePart (now part)) (now part) n ⌝ }
     requires { ⌜ (length (now next) ≡ bothLimit) × (length (now parent) ≡ bothLimit) × (length (now born) ≡ bothLimit) ⌝ }

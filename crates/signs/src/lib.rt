@@ -1,17 +1,16 @@
 // Signs of states: a word of 64 signs tells of many states at once which are to be looked at, and never of too few.
 //
-// With each state the signs of those are noted that a byte leads to it, and in rows where each kind leads. Round 0 parts the states by their mark, and has then the
-// signs of the states that lead to one that is not of the first part.
+// With each state the signs of those are noted that a byte leads to it. Round 0 parts the states by their mark, and has then the signs of the states that lead to
+// one that is not of the first part.
 ghost use mathlib.Core.Path.{_≡_};
 ghost use Prim.Native.Nat.{_+_, _%_, _^_, _≤_, _<_};
 ghost use lib.ListN.{length, replicate};
-ghost use Rattle.scope.specs.Machines.Room.{statesOf, Sound};
+ghost use Rattle.scope.specs.Machines.Room.{statesOf, classesOf, Sound};
 ghost use Rattle.scope.specs.Machines.Rounds.{Together};
 ghost use Rattle.two_rooms.specs.Side.{bothLimit, both, side, FirstStates};
-ghost use Rattle.two_rooms.specs.Kinds.{Kinds};
 ghost use Rattle.parting.specs.Named.{Named};
-ghost use Rattle.parting.specs.CellRows.{rowCells, CellRows};
-ghost use Rattle.signs.specs.Signs.{signs, Gap, Sources, SignNoted, Steady};
+ghost use Rattle.parting.specs.CellRows.{rowWidth, rowCells, CellRows};
+ghost use Rattle.signs.specs.Signs.{signs, Gap, Sources, CellsNoted, Steady};
 
 // How many signs there are: a state has the one that its number leaves.
 const SIGNS: usize = 64;
@@ -46,44 +45,28 @@ pub fn seek(s: u64, q: usize, n: usize) -> usize
     n
 }
 
-// Notes for each kind the state to which it leads q, in the row of q if it fits, and with that state the sign of q. Where the kind before leads there too,
-// the sign is noted already.
-fn note(
-    a: &[u8],
-    b: &[u8],
-    least: &[u8],
-    q: usize,
-    rows: &mut [u16; parting::ROWS],
-    from: &mut [u64; two_rooms::STATES],
-)
-    requires { ⌜ Sound (now a) × Sound (now b) ⌝ }
-    requires { ⌜ Kinds (now a) (now b) (now least) (length (now least)) × (q < statesOf (now a) + statesOf (now b)) ⌝ }
-    requires { ⌜ (length (now rows) ≡ rowCells) × (length (now from) ≡ bothLimit) ⌝ }
-    requires { ⌜ CellRows ((both (now a) (now b)) .next) (now least) (now rows) q ⌝ }
-    ensures { λ _. ⌜ CellRows ((both (now (a .entry)) (now (b .entry))) .next) (now (least .entry)) (now (rows .exit)) (q + 1) ⌝ }
-    ensures { λ _. ⌜ SignNoted ((both (now (a .entry)) (now (b .entry))) .next) q (now (from .entry)) (now (from .exit)) ⌝ }
-    ensures { λ _. ⌜ (length (now (rows .exit)) ≡ rowCells) × (length (now (from .exit)) ≡ bothLimit) ⌝ }
+// Notes the sign s with each state to which a class leads the state q of the room, whose states stand from `base` on. Where the class before leads there too,
+// it is noted already.
+fn note(room: &[u8], base: usize, q: usize, s: u64, from: &mut [u64; two_rooms::STATES])
+    requires { ⌜ Sound (now room) × (q < statesOf (now room)) × (base + statesOf (now room) ≤ bothLimit) ⌝ }
+    requires { ⌜ length (now from) ≡ bothLimit ⌝ }
+    ensures { λ _. ⌜ length (now (from .exit)) ≡ bothLimit ⌝ }
+    ensures { λ _. ⌜ CellsNoted (now (room .entry)) base q s (now (from .entry)) (now (from .exit)) (classesOf (now (room .entry))) ⌝ }
 {
-    let s = sign(q);
-    let count = least.len();
-    let x = q * count;
-    let fits = x + count <= parting::ROWS;
+    let k = room::head(room).classes;
     let mut last = two_rooms::STATES;
-    let mut i: usize = 0;
-    while i < count {
-        let y = two_rooms::step(a, b, q, least[i]);
-        if fits {
-            rows[x + i] = y as u16;
-        }
+    let mut c: usize = 0;
+    while c < k {
+        let y = base + room::cell(room, q, c as u8);
         if y != last {
             from[y] = from[y] | s;
             last = y;
         }
-        i += 1;
+        c += 1;
     }
 }
 
-// Notes the first n states.
+// Notes the first n states: in rows where the first bytes of least lead each, and its sign with each state to which a byte leads it.
 pub fn note_all(
     a: &[u8],
     b: &[u8],
@@ -92,14 +75,20 @@ pub fn note_all(
     rows: &mut [u16; parting::ROWS],
     from: &mut [u64; two_rooms::STATES],
 )
-    requires { ⌜ FirstStates (now a) (now b) n × Kinds (now a) (now b) (now least) (length (now least)) ⌝ }
+    requires { ⌜ FirstStates (now a) (now b) n × (rowWidth ≤ length (now least)) ⌝ }
     requires { ⌜ (length (now rows) ≡ rowCells) × (length (now from) ≡ bothLimit) ⌝ }
     ensures { λ _. ⌜ CellRows ((both (now (a .entry)) (now (b .entry))) .next) (now (least .entry)) (now (rows .exit)) n ⌝ }
     ensures { λ _. ⌜ Sources ((both (now (a .entry)) (now (b .entry))) .next) n (now (from .exit)) ⌝ }
 {
+    let s = room::head(a).states;
     let mut q: usize = 0;
     while q < n {
-        note(a, b, least, q, rows, from);
+        parting::write_row(a, b, least, q, rows);
+        if q < s {
+            note(a, 0, q, sign(q), from);
+        } else {
+            note(b, s, q - s, sign(q), from);
+        }
         q += 1;
     }
 }

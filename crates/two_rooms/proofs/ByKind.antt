@@ -1,12 +1,11 @@
 -- Kinds of bytes, found in one pass: a byte is of a new kind exactly if no least byte of a kind so far has its classes. So they are numbered on first arrival.
 --   class-small, pair-one: classes are below 64, so a pair of them is one number
 --   Numbering: the bytes below e are numbered by their kinds
---   level-none, level-more, level-not: a stretch of bytes with the class of the byte before, so far
 --   KindsPassed, passed-first, passed-same, passed-level, passed-old, passed-new, passed-full, passed-all: the pass, its turns, and where it ends
 --   passed-byte, passed-few: the least bytes so far are bytes that were passed, and so many
 --   most-bytes, most-classes: there are at most 256 kinds; for one room at most as many as classes
---   kinds-part, least-bytes: the least bytes as a part of an array; they are bytes
---   kind-next, kind-before: a byte leads where the least byte of its kind does; a byte below it is of a smaller kind
+--   least-bytes: they are bytes
+--   kind-next, each-kind, kind-before: a byte leads where the least byte of its kind does; so a part of the array that has them all has a byte of each kind; a byte below it is of a smaller kind
 use Prim.Native.Nat.{ℕ, zero, suc, _+_, _-_, _*_, _≤_, _<_}
 use mathlib.Core.Path.{_≡_, refl, sym, ap, _∙_}
 use mathlib.Core.Bool.{Bool, true, false}
@@ -26,7 +25,7 @@ use Rattle.buffers.specs.Numbered.{Found, Came, Numbered}
 use Rattle.buffers.proofs.OneMore.{holds, fails}
 use Rattle.buffers.proofs.Numbered.{numbered-none, numbered-old, numbered-new, numbered-one, numbered-few, numbered-fewer}
 use Rattle.two_rooms.specs.Side.{both}
-use Rattle.two_rooms.specs.Kinds.{pairOf, stretch, LevelStretch, KindsOf, Kinds, Most}
+use Rattle.two_rooms.specs.Kinds.{pairOf, stretch, LevelStretch, KindsOf, Kinds, EachKind, Most}
 
 -- a byte's class is below 64
 pub class-small : (m : List ℕ) (x : ℕ) → Sound m → x < byteValues → classOf m x < classLimit
@@ -84,23 +83,6 @@ kinds-of a b kind least {count} t n = record {
     own : (i : ℕ) → i < count → getD kind (getD least i 0) 0 ≡ i
     own i l = let c = came i l in rw (c .leads) at (c .own)
 
--- ---- stretches
-
-pub level-none : (m : List ℕ) (x : ℕ) → Decides true (LevelStretch m x x)
-level-none m x = holds (λ y h l. absurd (omega arith))
-
-module _ (m : List ℕ) (x y : ℕ) {b : Bool} (low : x ≤ y) (d : Decides b (LevelStretch m x y)) where
-  -- a byte more that has the class of the byte before it
-  pub level-more : classOf m y ≡ classOf m (y - 1) → Decides b (LevelStretch m x (y + 1))
-  level-more e = record {
-    yes = λ t. below-more (λ (z : ℕ). x ≤ z → classOf m z ≡ classOf m (z - 1)) y (d .yes t) (λ l. e);
-    no = λ t f. d .no t (λ z h l. f z (omega arith) l);
-  }
-
-  -- or another
-  pub level-not : (classOf m y ≡ classOf m (y - 1) → ⊥) → Decides false (LevelStretch m x (y + 1))
-  level-not n = fails (λ f. n (f y (omega arith) low))
-
 -- ---- the pass
 
 -- the pass has come to the byte x, and the byte before x has the classes `last`
@@ -142,7 +124,7 @@ module _ {a b least : List ℕ} {count last x : ℕ} (g : KindsPassed a b least 
 
   -- all bytes are passed
   pub passed-all : Sound b → x ≡ byteValues → Kinds a b least count
-  passed-all t e = record { long = omega (arith, passed-few, g .least-long); kind = g .kind; are = kinds-of a b (g .kind) least t (rw e at (g .numbered)) }
+  passed-all t e = record { long = g .least-long; kind = g .kind; are = kinds-of a b (g .kind) least t (rw e at (g .numbered)) }
 
 -- p: the classes of x
 module _ (a b least : List ℕ) (count last x p : ℕ) (h : x < byteValues) (g : KindsPassed a b least count last x) (e : p ≡ pairOf a b x) where
@@ -248,33 +230,6 @@ most-classes {a} s = record { number = classOf a; below = λ x h. s .classes (cl
 
 -- ---- for whoever goes over the least bytes
 
--- those of an array, as a part of their own
-pub kinds-part : {a b least : List ℕ} {count : ℕ} → Kinds a b least count → Kinds a b (take count least) (length (take count least))
-kinds-part {a} {b} {least} {count} k = rw size (record {
-  long = omega (arith, size);
-  kind = k .kind;
-  are = record {
-    few = k .are .few;
-    below = k .are .below;
-    low = λ x l. rw (of x l) (k .are .low x l);
-    left = λ x l. rw (of x l) (k .are .left x l);
-    right = λ x l. rw (of x l) (k .are .right x l);
-    one = k .are .one;
-    byte = λ i l. rw (at i l) (k .are .byte i l);
-    own = λ i l. rw (at i l) (k .are .own i l);
-    rising = λ i j l m. rw (at i (omega arith), at j l) (k .are .rising i j l m);
-  };
-})
-  where
-    size : length (take count least) ≡ count
-    size = length-take-le count least (k .long)
-
-    at : (i : ℕ) → i < count → getD (take count least) i 0 ≡ getD least i 0
-    at i l = getD-take count least i 0 l
-
-    of : (x : ℕ) → x < byteValues → getD (take count least) (getD (k .kind) x 0) 0 ≡ getD least (getD (k .kind) x 0) 0
-    of x l = at (getD (k .kind) x 0) (k .are .below x l)
-
 -- they are bytes
 pub least-bytes : {a b least : List ℕ} {count : ℕ} → Kinds a b least count → (count ≤ byteValues) × Below least 0 count byteValues
 least-bytes k = (k .are .few, λ i h g. k .are .byte i h)
@@ -284,6 +239,16 @@ module _ (a b kind least : List ℕ) (count : ℕ) (k : KindsOf a b kind least c
   pub kind-next : (q : ℕ) → (both a b) .next q (getD least (getD kind x 0) 0) ≡ (both a b) .next q x
   unfolding nextOf
   kind-next q = rw (k .left x h, k .right x h) refl
+
+-- so a part of the array that has them all has a byte of each kind
+pub each-kind : {a b least : List ℕ} {count : ℕ} → Kinds a b least count → (m : ℕ) → count ≤ m → m ≤ byteValues → EachKind ((both a b) .next) (take m least)
+each-kind {a} {b} {least} {count} k m l h = record {
+  some = λ x g. let i = k .are .below x g in (
+    getD (k .kind) x 0,
+    omega (arith, i, length-take-le m least (omega (arith, k .long))),
+    λ q. rw (getD-take m least (getD (k .kind) x 0) 0 (omega (arith, i))) (kind-next a b (k .kind) least count (k .are) x g q),
+  );
+}
 
 -- a byte below the least byte of a kind is of a smaller kind
 pub kind-before : {a b kind least : List ℕ} {count : ℕ} → KindsOf a b kind least count → (x i : ℕ) → i < count → x < getD least i 0 → getD kind x 0 < i

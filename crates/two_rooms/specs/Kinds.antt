@@ -1,7 +1,8 @@
 -- Kinds of bytes: two bytes are of one kind exactly if they have one class in the room a and one in the room b. Kinds are numbered by their least byte.
 --   pairOf a b x: the two classes of the byte x, as one number
 --   KindsOf a b kind least count: the kinds of the bytes: kind has the kind of each byte, least the least byte of each kind
---   Kinds a b least count: so for some list of the kind of each byte; least has them all
+--   Kinds a b least count: so for some list of the kind of each byte, in an array that has a place for every byte
+--   EachKind next least: least has a byte of each kind: each byte leads every state where one of them does
 --   LevelStretch m x e: each byte from x up to e has the class of the byte before it, in the room m; stretch: so many bytes are passed over at once where they are level
 --   Most a b most: there are at most `most` kinds: the bytes have numbers below it, and those with one number are of one kind
 --   Column m least column count: column has the class of the least byte of each kind in the room m
@@ -28,9 +29,12 @@ pub record KindsOf (a b kind least : List ℕ) (count : ℕ) : Type 0 where
   pub rising : (i j : ℕ) → j < count → i < j → getD least i 0 < getD least j 0
 
 pub record Kinds (a b least : List ℕ) (count : ℕ) : Type 0 where
-  pub long : count ≤ length least
+  pub long : length least ≡ byteValues
   pub kind : List ℕ
   pub are : KindsOf a b kind least count
+
+pub record EachKind (next : ℕ → ℕ → ℕ) (least : List ℕ) : Type 0 where
+  pub some : (x : ℕ) → x < byteValues → (i : ℕ) × (i < length least) × ((q : ℕ) → next q (getD least i 0) ≡ next q x)
 
 pub record Most (a b : List ℕ) (most : ℕ) : Type 0 where
   pub number : ℕ → ℕ

@@ -1,25 +1,27 @@
--- Both ways decide it.
+-- The bytes of the rows and the others are all.
+use Prim.Native.Nat.{ℕ, _<_}
 use native.Mathlib.Omega.{arith}
 use borrow.Author.Needs.{needs}
-use Rattle.parting.proofs.CellRows.{row-small}
+use lib.ListN.{getD}
+use Rattle.scope.specs.Limits.{byteValues}
+use Rattle.buffers.proofs.OneMore.{fails}
+use Rattle.parting.specs.CellRows.{rowWidth}
+use Rattle.parting.proofs.Leading.{led-all}
 use Rattle.parting.proofs.agree.Statement.{statement}
 use Rattle.parting.proofs.agree.Tie as tie
 
-mul-if1 : tie.Need-mul-if1
-mul-if1 c = let d = c .before .before .before .pre in omega (arith, row-small (d .0) (d .1 .0) (d .1 .1 .1 .1))
+byte : (c : tie.After-shared-slice-known3) (i : ℕ) → getD (c .before .before .before .args .least .now) i 0 < byteValues
+byte c i = omega (arith, c .shared-slice-known3 .given i)
 
-add-if1 : tie.Need-add-if1
-add-if1 c = let d = c .before .before .before .pre in omega (arith, row-small (d .0) (d .1 .0) (d .1 .1 .1 .1), d .1 .0 .are .few)
+returns : tie.Need-returns
+returns c = let d = c .before .before .before .before .before .before .pre .1 in
+    record {
+      yes = λ e. led-all _ _ _ rowWidth (d .0 .0) (d .1 .1 .2) (c .before .before .agree-rows .ensures .yes (c .before .if1 .taken)) (c .agree-rooms .ensures .yes e);
+      no = λ e g. c .agree-rooms .ensures .no e (λ i l m. g .there _ (byte (c .before .before .before) i));
+    }
 
-agree-rows-requires : tie.Need-agree-rows-requires
-agree-rows-requires c κs = let d = c .before .before .before .before .pre .1 in
-    let e = d .1 .1 in
-    (d .0, ((d .1 .0, c .if1 .taken), (e .0, e .2)))
-
-agree-rooms-requires : tie.Need-agree-rooms-requires
-agree-rooms-requires c κs = let d = c .before .before .before .before .pre in
-    let e = d .1 .1 .1 in
-    (d .0, (d .1 .0, (omega (arith, e .0, e .1), e .1, e .2)))
+returns-2 : tie.Need-returns-2
+returns-2 c = rw (c .if1 .left) (fails (λ g. c .before .agree-rows .ensures .no (c .if1 .left) (λ i l m. g .there _ (byte (c .before .before) i))))
 
 pub agree-spec : {M : Type 1} → statement M
-agree-spec = tie.close (tie.spec mul-if1 add-if1 agree-rows-requires agree-rooms-requires (λ c. search needs) (λ c. search needs))
+agree-spec = tie.close (tie.spec (λ c κs. search needs) (λ c κs. search needs) returns returns-2)

@@ -1,16 +1,18 @@
--- The kinds that were looked at lead both states into one part; what holds for each kind holds for every byte.
-use Prim.Native.Nat.{_≤_, _-_}
+-- The bytes that were looked at lead both states into one part.
+use Prim.Native.Nat.{ℕ, _-_, _≤_}
 use native.Mathlib.Omega.{arith}
+use borrow.Author.Count.{below-more}
 use borrow.Author.Needs.{needs}
-use lib.ListN.{length}
+use lib.ListN.{length, getD}
 use Rattle.buffers.proofs.OneMore.{holds, fails}
 use Rattle.two_rooms.specs.Side.{both}
-use Rattle.parting.proofs.Leading.{Led, led-more, led-all, led-apart}
+use Rattle.parting.specs.Named.{OnePart, Led}
+use Rattle.parting.specs.CellRows.{rowWidth}
 use Rattle.parting.proofs.agree_rooms.Statement.{statement}
 use Rattle.parting.proofs.agree_rooms.Tie as tie
 
 abbrev Inv-loop : tie.InvT-loop
-Inv-loop a b least part p q i₀ i = (i ≤ length least) × Led ((both a b) .next) least part p q 0 i
+Inv-loop a b least part p q i₀ i = (rowWidth ≤ i) × Led ((both a b) .next) least part p q rowWidth i
 
 abbrev μ-loop : tie.MeasureT-loop
 μ-loop a b least part p q i₀ i = length least - i
@@ -19,10 +21,10 @@ loop-holds : tie.Need-loop-holds Inv-loop μ-loop
 loop-holds c = (search needs, λ i h l. absurd (omega arith))
 
 step-requires : tie.Need-step-requires Inv-loop μ-loop
-step-requires c κs = let d = c .before .before .before .before .before .before .pre in (d .0, d .1 .1 .0)
+step-requires c κs = let d = c .before .before .before .before .before .before .pre in (d .0, d .1 .0)
 
 step-requires-2 : tie.Need-step-requires-2 Inv-loop μ-loop
-step-requires-2 c κs = let d = c .before .before .before .before .before .before .before .pre in (d .0, d .1 .1 .1)
+step-requires-2 c κs = let d = c .before .before .before .before .before .before .before .pre in (d .0, d .1 .1)
 
 mul-if1 : tie.Need-mul-if1 Inv-loop μ-loop
 mul-if1 c = search needs
@@ -39,7 +41,7 @@ element-copy-out-if1-2 c = let d = c .before .before .before .before .before .be
     omega (arith, c .before .step2 .ensures .1, d .0 .few-states, d .1 .few-states)
 
 returns : tie.Need-returns Inv-loop μ-loop
-returns c = fails (led-apart (c .before .before .before .before .before .before .before .before .before .before .before .pre .1 .0) _ _ _ (c .before .before .before .before .before .before .loop-test .taken) (c .before .before .before .before .step .ensures .0) (c .before .before .before .step2 .ensures .0) (c .if1 .taken))
+returns c = fails (λ d. c .if1 .taken (rw (c .before .before .before .before .step .ensures .0, c .before .before .before .step2 .ensures .0) (d _ (c .before .before .before .before .before .before .loop-test .taken) (c .before .before .before .before .before .before .before .loop .inv .0))))
 
 add-i : tie.Need-add-i Inv-loop μ-loop
 add-i c = search needs
@@ -49,10 +51,12 @@ loop-less c = search needs
 
 loop-again : tie.Need-loop-again Inv-loop μ-loop
 loop-again c = let s = c .before .before .before .before .before .before .before .before .before .before .before .args in
-    (search needs, led-more ((both (s .a .now) (s .b .now)) .next) (s .least .now) (s .part .now) _ _ (c .before .before .before .before .step .ensures .0) (c .before .before .before .step2 .ensures .0) (c .if1 .left) (c .before .before .before .before .before .before .before .loop .inv .1))
+    let next = (both (s .a .now) (s .b .now)) .next in
+    let l = c .before .before .before .before .before .before .before .loop in
+    (search needs, below-more (λ (j : ℕ). rowWidth ≤ j → OnePart (s .part .now) (next (s .p) (getD (s .least .now) j 0)) (next (s .q) (getD (s .least .now) j 0))) (l .i) (l .inv .1) (λ m. rw (← c .before .before .before .before .step .ensures .0, ← c .before .before .before .step2 .ensures .0) (c .if1 .left)))
 
 returns-2 : tie.Need-returns-2 Inv-loop μ-loop
-returns-2 c = let d = c .before .before .before .before .before in holds (led-all (d .pre .1 .0) (omega arith) (omega arith) (d .pre .1 .1 .2) (c .before .loop .inv .1))
+returns-2 c = holds (λ j h m. c .before .loop .inv .1 j (omega arith) m)
 
 pub agree-rooms-spec : {M : Type 1} → statement M
 agree-rooms-spec = tie.close (tie.spec Inv-loop μ-loop loop-holds (λ c. search needs) step-requires step-requires-2 mul-if1 element-copy-out-if1 mul-if1-2 element-copy-out-if1-2 returns add-i loop-less loop-again returns-2)

@@ -1,89 +1,93 @@
--- The kinds from i on lead both states into one part, by their rows.
-use Prim.Native.Nat.{_+_, _*_, _-_, _≤_}
-use native.Mathlib.Nat.{mul-le-mul-right}
+-- Whether the cells before i lie in one part.
+use Prim.Native.Nat.{ℕ, _+_, _*_, _-_, _≤_}
+use mathlib.Core.Path.{_≡_}
+use mathlib.Core.Logic.{⊎-elim}
 use native.Mathlib.Omega.{arith}
 use borrow.Author.Needs.{needs}
-use lib.ListN.{length}
-use Rattle.buffers.proofs.OneMore.{holds, fails}
+use lib.ListN.{length, getD}
+use Rattle.buffers.specs.Stored.{Decides}
+use Rattle.buffers.proofs.OneMore.{holds, each-more, each-not}
 use Rattle.two_rooms.specs.Side.{both}
-use Rattle.parting.specs.CellRows.{rowCells, RowCell}
-use Rattle.parting.proofs.Leading.{Led, led-before, led-all, led-apart}
+use Rattle.parting.specs.Named.{OnePart, Led}
+use Rattle.parting.specs.CellRows.{rowWidth, RowCell}
 use Rattle.parting.proofs.agree_rows.Statement.{statement}
 use Rattle.parting.proofs.agree_rows.Tie as tie
 
 abbrev Inv-loop : tie.InvT-loop
-Inv-loop a b least rows part p q count x y i₀ i = (i ≤ count) × Led ((both a b) .next) least part p q i count
+Inv-loop a b least rows part p q x y same₀ i₀ same i = (i ≤ rowWidth) × Decides same (Led ((both a b) .next) least part p q 0 i)
 
 abbrev μ-loop : tie.MeasureT-loop
-μ-loop a b least rows part p q count x y i₀ i = i
-
--- the row of p fits too
-fits : (c : tie.Start Inv-loop μ-loop) → c .args .p * length (c .args .least .now) + length (c .args .least .now) ≤ rowCells
-fits c = omega (arith, mul-le-mul-right (length (c .args .least .now)) (c .pre .1 .1 .0), c .pre .1 .0 .1)
+μ-loop a b least rows part p q x y same₀ i₀ same i = rowWidth - i
 
 -- the cells of both states are there
-cell-p : (c : tie.In-loop Inv-loop μ-loop) → let s = c .before .before .args in RowCell ((both (s .a .now) (s .b .now)) .next) (s .least .now) (s .rows .now) (s .p) (c .before .loop .i - 1)
-cell-p c = let d = c .before .before .pre .1 in d .0 .0 _ _ (omega (arith, d .1 .0)) (omega arith) (fits (c .before .before))
-
-cell-q : (c : tie.In-loop Inv-loop μ-loop) → let s = c .before .before .args in RowCell ((both (s .a .now) (s .b .now)) .next) (s .least .now) (s .rows .now) (s .q) (c .before .loop .i - 1)
-cell-q c = let d = c .before .before .pre .1 .0 in d .0 _ _ (omega arith) (omega arith) (d .1)
+cells : (c : tie.In-loop Inv-loop μ-loop) → let s = c .before .before .args in
+    RowCell ((both (s .a .now) (s .b .now)) .next) (s .least .now) (s .rows .now) (s .p) (c .before .loop .i) × RowCell ((both (s .a .now) (s .b .now)) .next) (s .least .now) (s .rows .now) (s .q) (c .before .loop .i)
+cells c = let d = c .before .before .pre in (d .0 _ _ (omega (arith, d .1 .0)) (c .loop-test .taken), d .0 _ _ (omega arith) (c .loop-test .taken))
 
 mul-x : tie.Need-mul-x Inv-loop μ-loop
-mul-x c = omega (arith, fits c)
+mul-x c = search needs
 
 mul-y : tie.Need-mul-y Inv-loop μ-loop
-mul-y c = omega (arith, c .pre .1 .0 .1)
+mul-y c = search needs
 
 loop-holds : tie.Need-loop-holds Inv-loop μ-loop
-loop-holds c = (search needs, λ i h l. absurd (omega arith))
+loop-holds c = (search needs, holds (λ i h l. absurd (omega arith)))
 
 add-if1 : tie.Need-add-if1 Inv-loop μ-loop
-add-if1 c = omega (arith, fits (c .before .before), c .loop-test .taken)
+add-if1 c = search needs
 
 mul-if1 : tie.Need-mul-if1 Inv-loop μ-loop
-mul-if1 c = omega (arith, fits (c .before .before), c .loop-test .taken)
+mul-if1 c = search needs
 
 element-copy-out-if1 : tie.Need-element-copy-out-if1 Inv-loop μ-loop
-element-copy-out-if1 c = omega (arith, fits (c .before .before), c .loop-test .taken)
+element-copy-out-if1 c = search needs
 
 cast-if1 : tie.Need-cast-if1 Inv-loop μ-loop
-cast-if1 c = omega (arith, cell-p (c .before) .below)
+cast-if1 c = omega (arith, cells (c .before) .0 .below)
 
 mul-if1-2 : tie.Need-mul-if1-2 Inv-loop μ-loop
-mul-if1-2 c = omega (arith, cell-p (c .before) .below)
+mul-if1-2 c = omega (arith, cells (c .before) .0 .below)
 
 element-copy-out-if1-2 : tie.Need-element-copy-out-if1-2 Inv-loop μ-loop
-element-copy-out-if1-2 c = cell-p (c .before) .below
+element-copy-out-if1-2 c = omega (arith, cells (c .before) .0 .below)
 
 add-if1-2 : tie.Need-add-if1-2 Inv-loop μ-loop
-add-if1-2 c = omega (arith, fits (c .before .before .before .before), c .before .before .before .before .pre .1 .0 .1, c .before .before .loop-test .taken)
+add-if1-2 c = search needs
 
 mul-if1-3 : tie.Need-mul-if1-3 Inv-loop μ-loop
-mul-if1-3 c = omega (arith, fits (c .before .before .before .before), c .before .before .before .before .pre .1 .0 .1, c .before .before .loop-test .taken)
+mul-if1-3 c = search needs
 
 element-copy-out-if1-3 : tie.Need-element-copy-out-if1-3 Inv-loop μ-loop
-element-copy-out-if1-3 c = omega (arith, fits (c .before .before .before .before), c .before .before .before .before .pre .1 .0 .1, c .before .before .loop-test .taken)
+element-copy-out-if1-3 c = search needs
 
 cast-if1-2 : tie.Need-cast-if1-2 Inv-loop μ-loop
-cast-if1-2 c = omega (arith, cell-p (c .before .before .before), cell-q (c .before .before .before))
+cast-if1-2 c = omega (arith, cells (c .before .before .before) .1 .below)
 
 mul-if1-4 : tie.Need-mul-if1-4 Inv-loop μ-loop
-mul-if1-4 c = omega (arith, cell-p (c .before .before .before), cell-q (c .before .before .before))
+mul-if1-4 c = omega (arith, cells (c .before .before .before) .1 .below)
 
 element-copy-out-if1-4 : tie.Need-element-copy-out-if1-4 Inv-loop μ-loop
-element-copy-out-if1-4 c = omega (arith, cell-p (c .before .before .before), cell-q (c .before .before .before))
+element-copy-out-if1-4 c = omega (arith, cells (c .before .before .before) .1 .below)
 
-returns : tie.Need-returns Inv-loop μ-loop
-returns c = let k = c .before .before .before .before .before in fails (led-apart (k .before .before .pre .0) (k .before .loop .i - 1) _ _ (omega arith) (cell-p k .is) (cell-q k .is) (c .if1 .taken))
+add-i : tie.Need-add-i Inv-loop μ-loop
+add-i c = search needs
+
+loop-less : tie.Need-loop-less Inv-loop μ-loop
+loop-less c = search needs
 
 loop-again : tie.Need-loop-again Inv-loop μ-loop
 loop-again c = let k = c .before .before .before .before .before in
-    let l = k .before in
-    let s = l .before .args in
-    (search needs, led-before ((both (s .a .now) (s .b .now)) .next) (s .least .now) (s .part .now) _ _ (cell-p k .is) (cell-q k .is) (c .if1 .left) (omega arith) (l .loop .inv .1))
+    let s = k .before .before .args in
+    let v = k .before .loop .inv in
+    let next = (both (s .a .now) (s .b .now)) .next in
+    let led : ℕ → Type 0 = λ i. OnePart (s .part .now) (next (s .p) (getD (s .least .now) i 0)) (next (s .q) (getD (s .least .now) i 0)) in
+    let (y, z) = cells k in (
+      search needs,
+      ⊎-elim (λ w. rw (w .1) (each-not led (omega arith) (v .1) (λ e. w .0 .taken (rw (← y .is, ← z .is) at e)))) (λ w. rw (w .1) (each-more led (omega arith) (v .1) (rw (← y .is, ← z .is) (w .0 .left)))) (c .if1 .came),
+    )
 
-returns-2 : tie.Need-returns-2 Inv-loop μ-loop
-returns-2 c = let d = c .before .before in holds (led-all (d .pre .0) (omega arith) (omega arith) (d .pre .1 .1 .1) (c .before .loop .inv .1))
+returns : tie.Need-returns Inv-loop μ-loop
+returns c = let e : c .before .loop .i ≡ rowWidth = omega (arith, c .before .loop .inv .0) in rw e at (c .before .loop .inv .1)
 
 pub agree-rows-spec : {M : Type 1} → statement M
 agree-rows-spec =
@@ -94,7 +98,6 @@ agree-rows-spec =
     mul-x
     mul-y
     loop-holds
-    (λ c. search needs)
     add-if1
     mul-if1
     element-copy-out-if1
@@ -107,7 +110,7 @@ agree-rows-spec =
     cast-if1-2
     mul-if1-4
     element-copy-out-if1-4
-    returns
-    (λ c. search needs)
+    add-i
+    loop-less
     loop-again
-    returns-2)
+    returns)

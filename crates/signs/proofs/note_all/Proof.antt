@@ -1,39 +1,55 @@
 -- The states below q are noted.
 use Prim.Native.Nat.{_-_, _≤_}
 use mathlib.Core.Path.{_≡_}
+use mathlib.Core.Logic.{⊎-elim}
 use native.Mathlib.Omega.{arith}
 use borrow.Author.Needs.{needs}
 use lib.ListN.{length}
 use Rattle.two_rooms.specs.Side.{bothLimit, both}
 use Rattle.parting.specs.CellRows.{rowCells, CellRows}
 use Rattle.signs.specs.Signs.{Sources}
-use Rattle.signs.proofs.Noting.{sources-more}
+use Rattle.signs.proofs.Noting.{sources-left, sources-right}
 use Rattle.signs.proofs.note_all.Statement.{statement}
 use Rattle.signs.proofs.note_all.Tie as tie
 
 abbrev Inv-loop : tie.InvT-loop
-Inv-loop a b least n rows₀ from₀ q₀ rows from q =
-    (q ≤ n) × (length rows ≡ rowCells) × (length from ≡ bothLimit) × CellRows ((both a b) .next) least rows q × Sources ((both a b) .next) q from
+Inv-loop a b least n rows₀ from₀ s q₀ rows from q =
+    (q ≤ n) × ((length rows ≡ rowCells) × CellRows ((both a b) .next) least rows q) × ((length from ≡ bothLimit) × Sources ((both a b) .next) q from)
 
 abbrev μ-loop : tie.MeasureT-loop
-μ-loop a b least n rows₀ from₀ q₀ rows from q = n - q
+μ-loop a b least n rows₀ from₀ s q₀ rows from q = n - q
 
 loop-holds : tie.Need-loop-holds Inv-loop μ-loop
-loop-holds c = let d = c .before .before .before .pre .1 in (search needs, d .0, d .1, λ q i h. absurd (omega arith), λ q x h. absurd (omega arith))
+loop-holds c = (search needs, (search needs, λ q i h. absurd (omega arith)), (search needs, λ q x h. absurd (omega arith)))
+
+write-row-requires : tie.Need-write-row-requires Inv-loop μ-loop
+write-row-requires c κs = let d = c .before .before .before .before .before .before .before .pre .0 in
+    ((d .0 .left, d .0 .right), ((omega (arith, c .before .loop-test .taken, d .0 .few), d .1), c .before .before .loop .inv .1))
 
 note-requires : tie.Need-note-requires Inv-loop μ-loop
-note-requires c κs = let d = c .before .before .before .before .before .before .before .pre .0 in
-    let v = c .before .before .before .loop .inv in
-    ((d .0 .left, d .0 .right), ((d .1, omega (arith, c .before .before .loop-test .taken, d .0 .few)), ((v .1, v .2), v .3)))
+note-requires c κs = let d = c .before .before .before .before .before .before .before .before .before .before .before .pre .0 .0 in
+    ((d .left, search needs, omega (arith, d .left .few-states)), search needs)
+
+note-requires-2 : tie.Need-note-requires-2 Inv-loop μ-loop
+note-requires-2 c κs = let d = c .before .before .before .before .before .before .before .before .before .before .before .pre .0 .0 in
+    ((d .right, omega (arith, c .before .before .before .before .before .loop-test .taken, d .few), omega (arith, d .left .few-states, d .right .few-states)), search needs)
 
 loop-again : tie.Need-loop-again Inv-loop μ-loop
-loop-again c = let e = c .note .ensures in
-    (omega (arith, c .before .before .before .loop-test .taken), e .1 .1 .0, e .1 .1 .1, e .0, sources-more (c .before .before .before .before .loop .inv .4) (e .1 .0))
+loop-again c = let d = c .before .before .before .before .before .before .before .before .before .pre .0 .0 in
+    let f = c .before .before .before .before .loop .inv .2 .1 in
+    let s = c .before .before .before .before .before .head .ensures .0 in (
+      search needs,
+      c .before .write-row .ensures,
+      ⊎-elim
+          (λ w. rw (w .4) (w .3 .ensures .0, sources-left d (w .1 .ensures) f (rw s at (w .0 .taken)) (w .3 .ensures .1)))
+          (λ w. rw (w .4) (w .3 .ensures .0, sources-right d (w .1 .ensures) f (rw s at (w .0 .left)) (rw s at (w .3 .ensures .1))))
+          (c .if1 .came),
+    )
 
 returns : tie.Need-returns Inv-loop μ-loop
 returns c = let v = c .before .loop .inv in
-    let e : c .before .loop .q ≡ c .before .before .before .before .before .args .n = omega (arith, c .loop-test .left, v .0) in
-    (rw e at (v .3), rw e at (v .4))
+    let e : c .before .loop .q ≡ c .before .before .before .before .before .before .args .n = omega arith in
+    (rw e at (v .1 .1), rw e at (v .2 .1))
 
 pub note-all-spec : {M : Type 1} → statement M
 note-all-spec =
@@ -41,8 +57,13 @@ note-all-spec =
     (tie.spec
     Inv-loop
     μ-loop
+    (λ c κs. search needs)
     loop-holds
+    write-row-requires
+    (λ c κs. search needs)
     note-requires
+    (λ c κs. search needs)
+    note-requires-2
     (λ c. search needs)
     (λ c. search needs)
     loop-again

@@ -6,9 +6,10 @@ use native.Mathlib.Omega.{arith}
 use borrow.Author.Needs.{needs}
 use lib.ListN.{getD}
 use Rattle.scope.specs.Limits.{classesAt}
+use Rattle.scope.specs.Machines.Room.{classOf}
 use Rattle.buffers.specs.Stored.{Decides}
+use Rattle.buffers.proofs.OneMore.{holds, each-more, each-not}
 use Rattle.two_rooms.specs.Kinds.{stretch, LevelStretch}
-use Rattle.two_rooms.proofs.ByKind.{level-none, level-more, level-not}
 use Rattle.two_rooms.proofs.is_level.Statement.{statement}
 use Rattle.two_rooms.proofs.is_level.Tie as tie
 
@@ -19,7 +20,7 @@ abbrev μ-loop : tie.MeasureT-loop
 μ-loop room x level₀ y₀ level y = x + stretch - y
 
 loop-holds : tie.Need-loop-holds Inv-loop μ-loop
-loop-holds c = (search needs, search needs, level-none (c .args .room .now) (c .args .x))
+loop-holds c = (search needs, search needs, holds (λ y h l. absurd (omega arith)))
 
 shared-slice-read-if1 : tie.Need-shared-slice-read-if1 Inv-loop μ-loop
 shared-slice-read-if1 c = omega (arith, c .before .before .before .pre .0 .long, c .before .before .before .pre .2, c .before .loop-test .taken)
@@ -33,10 +34,11 @@ loop-again c =
     let x = c .before .before .before .before .before .args .x in
     let y = c .before .before .before .before .loop .y in
     let l = c .before .before .before .before .loop .inv in
+    let as-before : ℕ → Type 0 = λ z. classOf m z ≡ classOf m (z - 1) in
     let at : getD m (classesAt - 1 + y) 0 ≡ getD m (classesAt + (y - 1)) 0 = ap (λ (i : ℕ). getD m i 0) (omega (arith, l .0, c .before .before .before .before .before .pre .1)) in (
       search needs,
       search needs,
-      ⊎-elim (λ w. rw (w .1) (level-not m x y (l .0) (l .2) (λ e. w .0 .taken (e ∙ sym at)))) (λ w. rw (w .1) (level-more m x y (l .0) (l .2) (w .0 .left ∙ at))) (c .if1 .came),
+      ⊎-elim (λ w. rw (w .1) (each-not as-before (l .0) (l .2) (λ e. w .0 .taken (e ∙ sym at)))) (λ w. rw (w .1) (each-more as-before (l .0) (l .2) (w .0 .left ∙ at))) (c .if1 .came),
     )
 
 returns : tie.Need-returns Inv-loop μ-loop
