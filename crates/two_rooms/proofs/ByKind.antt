@@ -6,23 +6,19 @@
 --   most-bytes, most-classes: there are at most 256 kinds; for one room at most as many as classes
 --   least-bytes: they are bytes
 --   kind-next, each-kind, kind-before: a byte leads where the least byte of its kind does; so a part of the array that has them all has a byte of each kind; a byte below it is of a smaller kind
-use Prim.Native.Nat.{ℕ, zero, suc, _+_, _-_, _*_, _≤_, _<_}
+use Prim.Native.Nat.{ℕ, zero, suc, _+_, _-_, _≤_, _<_}
 use mathlib.Core.Path.{_≡_, refl, sym, ap, _∙_}
-use mathlib.Core.Bool.{Bool, true, false}
 use mathlib.Core.Logic.{_⊎_, inl, inr}
 use mathlib.Core.List.{List}
 use native.Mathlib.Omega.{arith}
 use native.Mathlib.Decide.{ℕ-discrete}
-use borrow.Author.Count.{below-more}
 use lib.Seq.{getD-set-same, getD-set-other, length-take-le, getD-take}
 use lib.ListN.{length, take, getD, set, replicate, length-set}
 use Rattle.scope.specs.Limits.{byteValues, classLimit, classesAt}
 use Rattle.scope.specs.Machines.Room.{classesOf, classOf, nextOf, Below, Sound}
 use Rattle.scope.proofs.Counting.Tests.{split}
 use Rattle.scope.proofs.Counting.Lists.{zeros}
-use Rattle.buffers.specs.Stored.{Decides}
 use Rattle.buffers.specs.Numbered.{Found, Came, Numbered}
-use Rattle.buffers.proofs.OneMore.{holds, fails}
 use Rattle.buffers.proofs.Numbered.{numbered-none, numbered-old, numbered-new, numbered-one, numbered-few, numbered-fewer}
 use Rattle.two_rooms.specs.Side.{both}
 use Rattle.two_rooms.specs.Kinds.{pairOf, stretch, LevelStretch, KindsOf, Kinds, EachKind, Most}

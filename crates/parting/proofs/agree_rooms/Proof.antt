@@ -26,15 +26,9 @@ step-requires c κs = let d = c .before .before .before .before .before .before 
 step-requires-2 : tie.Need-step-requires-2 Inv-loop μ-loop
 step-requires-2 c κs = let d = c .before .before .before .before .before .before .before .pre in (d .0, d .1 .1)
 
-mul-if1 : tie.Need-mul-if1 Inv-loop μ-loop
-mul-if1 c = search needs
-
 element-copy-out-if1 : tie.Need-element-copy-out-if1 Inv-loop μ-loop
 element-copy-out-if1 c = let d = c .before .before .before .before .before .before .before .before .pre .0 in
     omega (arith, c .before .step .ensures .1, d .0 .few-states, d .1 .few-states)
-
-mul-if1-2 : tie.Need-mul-if1-2 Inv-loop μ-loop
-mul-if1-2 c = search needs
 
 element-copy-out-if1-2 : tie.Need-element-copy-out-if1-2 Inv-loop μ-loop
 element-copy-out-if1-2 c = let d = c .before .before .before .before .before .before .before .before .before .pre .0 in
@@ -42,12 +36,6 @@ element-copy-out-if1-2 c = let d = c .before .before .before .before .before .be
 
 returns : tie.Need-returns Inv-loop μ-loop
 returns c = fails (λ d. c .if1 .taken (rw (c .before .before .before .before .step .ensures .0, c .before .before .before .step2 .ensures .0) (d _ (c .before .before .before .before .before .before .loop-test .taken) (c .before .before .before .before .before .before .before .loop .inv .0))))
-
-add-i : tie.Need-add-i Inv-loop μ-loop
-add-i c = search needs
-
-loop-less : tie.Need-loop-less Inv-loop μ-loop
-loop-less c = search needs
 
 loop-again : tie.Need-loop-again Inv-loop μ-loop
 loop-again c = let s = c .before .before .before .before .before .before .before .before .before .before .before .args in
@@ -59,4 +47,4 @@ returns-2 : tie.Need-returns-2 Inv-loop μ-loop
 returns-2 c = holds (λ j h m. c .before .loop .inv .1 j (omega arith) m)
 
 pub agree-rooms-spec : {M : Type 1} → statement M
-agree-rooms-spec = tie.close (tie.spec Inv-loop μ-loop loop-holds (λ c. search needs) step-requires step-requires-2 mul-if1 element-copy-out-if1 mul-if1-2 element-copy-out-if1-2 returns add-i loop-less loop-again returns-2)
+agree-rooms-spec = tie.close (tie.spec Inv-loop μ-loop loop-holds (λ c. search needs) step-requires step-requires-2 (λ c. search needs) element-copy-out-if1 (λ c. search needs) element-copy-out-if1-2 returns (λ c. search needs) (λ c. search needs) loop-again returns-2)

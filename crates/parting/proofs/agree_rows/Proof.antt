@@ -1,10 +1,10 @@
 -- Whether the cells before i lie in one part.
-use Prim.Native.Nat.{ℕ, _+_, _*_, _-_, _≤_}
+use Prim.Native.Nat.{ℕ, _-_, _≤_}
 use mathlib.Core.Path.{_≡_}
 use mathlib.Core.Logic.{⊎-elim}
 use native.Mathlib.Omega.{arith}
 use borrow.Author.Needs.{needs}
-use lib.ListN.{length, getD}
+use lib.ListN.{getD}
 use Rattle.buffers.specs.Stored.{Decides}
 use Rattle.buffers.proofs.OneMore.{holds, each-more, each-not}
 use Rattle.two_rooms.specs.Side.{both}
@@ -24,23 +24,8 @@ cells : (c : tie.In-loop Inv-loop μ-loop) → let s = c .before .before .args i
     RowCell ((both (s .a .now) (s .b .now)) .next) (s .least .now) (s .rows .now) (s .p) (c .before .loop .i) × RowCell ((both (s .a .now) (s .b .now)) .next) (s .least .now) (s .rows .now) (s .q) (c .before .loop .i)
 cells c = let d = c .before .before .pre in (d .0 _ _ (omega (arith, d .1 .0)) (c .loop-test .taken), d .0 _ _ (omega arith) (c .loop-test .taken))
 
-mul-x : tie.Need-mul-x Inv-loop μ-loop
-mul-x c = search needs
-
-mul-y : tie.Need-mul-y Inv-loop μ-loop
-mul-y c = search needs
-
 loop-holds : tie.Need-loop-holds Inv-loop μ-loop
 loop-holds c = (search needs, holds (λ i h l. absurd (omega arith)))
-
-add-if1 : tie.Need-add-if1 Inv-loop μ-loop
-add-if1 c = search needs
-
-mul-if1 : tie.Need-mul-if1 Inv-loop μ-loop
-mul-if1 c = search needs
-
-element-copy-out-if1 : tie.Need-element-copy-out-if1 Inv-loop μ-loop
-element-copy-out-if1 c = search needs
 
 cast-if1 : tie.Need-cast-if1 Inv-loop μ-loop
 cast-if1 c = omega (arith, cells (c .before) .0 .below)
@@ -51,29 +36,14 @@ mul-if1-2 c = omega (arith, cells (c .before) .0 .below)
 element-copy-out-if1-2 : tie.Need-element-copy-out-if1-2 Inv-loop μ-loop
 element-copy-out-if1-2 c = omega (arith, cells (c .before) .0 .below)
 
-add-if1-2 : tie.Need-add-if1-2 Inv-loop μ-loop
-add-if1-2 c = search needs
-
-mul-if1-3 : tie.Need-mul-if1-3 Inv-loop μ-loop
-mul-if1-3 c = search needs
-
-element-copy-out-if1-3 : tie.Need-element-copy-out-if1-3 Inv-loop μ-loop
-element-copy-out-if1-3 c = search needs
-
 cast-if1-2 : tie.Need-cast-if1-2 Inv-loop μ-loop
-cast-if1-2 c = omega (arith, cells (c .before .before .before) .1 .below)
+cast-if1-2 c = omega (arith, cells (c .before .before .before))
 
 mul-if1-4 : tie.Need-mul-if1-4 Inv-loop μ-loop
-mul-if1-4 c = omega (arith, cells (c .before .before .before) .1 .below)
+mul-if1-4 c = omega (arith, cells (c .before .before .before))
 
 element-copy-out-if1-4 : tie.Need-element-copy-out-if1-4 Inv-loop μ-loop
-element-copy-out-if1-4 c = omega (arith, cells (c .before .before .before) .1 .below)
-
-add-i : tie.Need-add-i Inv-loop μ-loop
-add-i c = search needs
-
-loop-less : tie.Need-loop-less Inv-loop μ-loop
-loop-less c = search needs
+element-copy-out-if1-4 c = omega (arith, cells (c .before .before .before))
 
 loop-again : tie.Need-loop-again Inv-loop μ-loop
 loop-again c = let k = c .before .before .before .before .before in
@@ -95,22 +65,22 @@ agree-rows-spec =
     (tie.spec
     Inv-loop
     μ-loop
-    mul-x
-    mul-y
+    (λ c. search needs)
+    (λ c. search needs)
     loop-holds
-    add-if1
-    mul-if1
-    element-copy-out-if1
+    (λ c. search needs)
+    (λ c. search needs)
+    (λ c. search needs)
     cast-if1
     mul-if1-2
     element-copy-out-if1-2
-    add-if1-2
-    mul-if1-3
-    element-copy-out-if1-3
+    (λ c. search needs)
+    (λ c. search needs)
+    (λ c. search needs)
     cast-if1-2
     mul-if1-4
     element-copy-out-if1-4
-    add-i
-    loop-less
+    (λ c. search needs)
+    (λ c. search needs)
     loop-again
     returns)

@@ -1,11 +1,10 @@
 -- The cells of the classes below c are noted.
-use Prim.Native.Nat.{_+_, _-_, _<_}
+use Prim.Native.Nat.{_-_}
 use mathlib.Core.Path.{_≡_}
 use mathlib.Core.Logic.{⊎-elim}
 use native.Mathlib.Omega.{arith}
 use borrow.Author.Needs.{needs}
 use Rattle.scope.specs.Machines.Room.{classesOf}
-use Rattle.two_rooms.specs.Side.{bothLimit}
 use Rattle.signs.proofs.Noting.{Noting, noting-none, noting-set, noting-again}
 use Rattle.signs.proofs.note.Statement.{statement}
 use Rattle.signs.proofs.note.Tie as tie
