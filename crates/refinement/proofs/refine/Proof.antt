@@ -27,9 +27,13 @@ Inv-loop a b least count n part₀ parent₀ born₀ rows from m touched₀ link
 abbrev μ-loop : tie.MeasureT-loop
 μ-loop a b least count n part₀ parent₀ born₀ rows from m touched₀ link₀ next₀ r₀ part parent born touched link next r = n - r
 
+-- the way back from a turn to what is tried
+abbrev start : tie.At-loop Inv-loop μ-loop → tie.After-tried Inv-loop μ-loop
+start c = c .before .before .before .before .before .before .before .before .before .before .before .before
+
 -- there are at most n - 2 rounds
-few : (c : tie.At-loop Inv-loop μ-loop) → c .loop .r ≤ c .before .before .before .before .before .before .before .before .before .before .before .before .before .before .before .before .args .n - 2
-few c = after-few _ (c .before .before .before .before .before .before .before .before .before .before .before .before .before .before .before .before .pre .0 .closed) _ _ _ _ (c .loop .inv .4)
+few : (c : tie.At-loop Inv-loop μ-loop) → c .loop .r ≤ start c .before .before .before .before .args .n - 2
+few c = after-few _ (start c .before .before .before .before .pre .0 .closed) _ _ _ _ (c .loop .inv .4)
 
 -- and not more states than two rooms have
 states : (c : tie.After-tried Inv-loop μ-loop) → c .before .before .before .before .args .n ≤ bothLimit
@@ -67,31 +71,33 @@ loop-holds c =
     (b .0 .0, w .0 .size, rw (z .1) refl, rw (z .2) refl, rw (z .1, z .2) (after-none _ _ (b .0 .1)), b .1, w .0 .inside, w .1 .size, cleared (w .1) (λ x h. zeros bothLimit x))
 
 add-round : tie.Need-add-round Inv-loop μ-loop
-add-round c = omega (arith, few (c .before .before .before .before .before .before .before .before .before), c .before .before .before .before .before .before .before .before .before .before .before .before .before .before .before .before .before .before .before .before .before .before .before .before .before .fits .n)
+add-round c = let l = c .before .before .before .before .before .before .before .before .before in omega (arith, few l, start l .before .before .before .before .fits .n)
 
 cast-round : tie.Need-cast-round Inv-loop μ-loop
-cast-round c = omega (arith, few (c .before .before .before .before .before .before .before .before .before), states (c .before .before .before .before .before .before .before .before .before .before .before .before .before .before .before .before .before .before .before .before .before))
+cast-round c = let l = c .before .before .before .before .before .before .before .before .before in omega (arith, few l, states (start l))
 
 round-requires : tie.Need-round-requires Inv-loop μ-loop
 round-requires c κs =
-    let d = c .before .before .before .before .before .before .before .before .before .before .before .before .before .before .before .before .before .before .before .before .before .before .before .before .before .pre in
-    let v = c .before .before .before .before .before .before .before .before .before .loop .inv in
-    (d .0, (bytes (c .before .before .before .before .before .before .before .before .before .before .before .before .before .before .before .before .before .before .before .before .before), (c .before .before .before .before .before .before .before .before .before .before .before .before .before .before .before .before .before .note-all .ensures .0, (after-own _ (d .0 .closed) _ _ _ _ (v .4), ((v .1, v .2, v .3), (v .5, (v .6, (v .7, v .8))))))))
+    let l = c .before .before .before .before .before .before .before .before .before in
+    let d = start l .before .before .before .before .pre in
+    let v = l .loop .inv in
+    (d .0, (bytes (start l), (l .before .before .before .before .before .before .before .before .note-all .ensures .0, (after-own _ (d .0 .closed) _ _ _ _ (v .4), ((v .1, v .2, v .3), (v .5, (v .6, (v .7, v .8))))))))
 
 adopt-requires-2 : tie.Need-adopt-requires-2 Inv-loop μ-loop
-adopt-requires-2 c κs = (omega (arith, states (c .before .before .before .before .before .before .before .before .before .before .before .before .before .before .before .before .before .before .before .before .before .before .before .before .before .before)), c .before .before .before .before .before .before .before .before .before .before .before .before .before .before .loop .inv .0, c .before .before .before .before .round .ensures .1 .1 .1 .1 .0)
+adopt-requires-2 c κs = let l = c .before .before .before .before .before .before .before .before .before .before .before .before .before .before in (states (start l), l .loop .inv .0, c .before .before .before .before .round .ensures .1 .1 .1 .1 .0)
 
 add-r : tie.Need-add-r Inv-loop μ-loop
-add-r c = omega (arith, few (c .before .before .before .before .before .before .before .before .before .before .before .before .before .before .before), c .before .before .before .before .before .before .before .before .before .before .before .before .before .before .before .before .before .before .before .before .before .before .before .before .before .before .before .before .before .before .before .fits .n)
+add-r c = let l = c .before .before .before .before .before .before .before .before .before .before .before .before .before .before .before in omega (arith, few l, start l .before .before .before .before .fits .n)
 
 loop-less : tie.Need-loop-less Inv-loop μ-loop
-loop-less c = omega (arith, few (c .before .before .before .before .before .before .before .before .before .before .before .before .before .before .before), c .before .before .before .before .before .before .before .before .before .before .before .before .before .before .before .before .before .before .before .before .before .before .before .before .before .before .before .before .before .before .before .pre .0 .closed .some)
+loop-less c = let l = c .before .before .before .before .before .before .before .before .before .before .before .before .before .before .before in omega (arith, few l, start l .before .before .before .before .pre .0 .closed .some)
 
 loop-again : tie.Need-loop-again Inv-loop μ-loop
 loop-again c =
-    let a = c .before .before .before .before .before .before .before .before .before .before .before .before .before .before .before .before .before .before .before .before .before .before .before .before .before .before .before .before .before .before .before .args in
-    let d = c .before .before .before .before .before .before .before .before .before .before .before .before .before .before .before .before .before .before .before .before .before .before .before .before .before .before .before .before .before .before .before .pre .0 in
-    let v = c .before .before .before .before .before .before .before .before .before .before .before .before .before .before .before .loop .inv in
+    let l = c .before .before .before .before .before .before .before .before .before .before .before .before .before .before .before in
+    let a = start l .before .before .before .before .args in
+    let d = start l .before .before .before .before .pre .0 in
+    let v = l .loop .inv in
     let e = c .before .before .before .before .before .round .ensures in
     let w = c .adopt2 .ensures in (
       w .0 .size ∙ v .0,
@@ -99,7 +105,7 @@ loop-again c =
       e .1 .0 .parent-long ∙ v .2,
       e .1 .0 .born-long ∙ v .3,
       after-copied _ (w .0 .inside) (after-more _ (d .closed) _ _ _ _ (v .4) _ _ _ (e .0 .named) (e .1 .0) (e .1 .1 .1 .0 .yes (c .before .before .before .before .if1 .taken))),
-      steady-next {M = side (a .a .now) (a .b .now) (a .n)} (d .closed) (c .before .before .before .before .before .before .before .before .before .before .before .before .before .before .before .before .before .before .before .before .before .before .before .note-all .ensures .1) (e .0) (e .1 .1 .0) (w .0),
+      steady-next {M = side (a .a .now) (a .b .now) (a .n)} (d .closed) (l .before .before .before .before .before .before .before .before .note-all .ensures .1) (e .0) (e .1 .1 .0) (w .0),
       λ q h. sym (w .0 .inside q h),
       w .1 .size ∙ e .1 .1 .1 .1 .0,
       cleared (w .1) (e .1 .1 .1 .1 .1),
@@ -107,8 +113,9 @@ loop-again c =
 
 returns : tie.Need-returns Inv-loop μ-loop
 returns c =
-    let d = c .before .before .before .before .before .before .before .before .before .before .before .before .before .before .before .before .before .before .before .before .before .before .before .before .before .before .before .pre .0 in
-    let v = c .before .before .before .before .before .before .before .before .before .before .before .loop .inv in
+    let l = c .before .before .before .before .before .before .before .before .before .before .before in
+    let d = start l .before .before .before .before .pre .0 in
+    let v = l .loop .inv in
     let e = c .before .round .ensures in
     (after-done _ (d .closed) _ _ _ _ (v .4) _ _ _ (e .0 .named) (e .1 .0) (e .1 .1 .1 .0 .no (c .if1 .left)), (v .0, e .1 .0 .parent-long ∙ v .2, e .1 .0 .born-long ∙ v .3))
 
