@@ -1,36 +1,20 @@
--- The laws of the loops and of the branches.
---   no-keys, key-found: no key so far, with one byte more that is no key, or is one
+-- The laws of the branches.
 --   room-part, text-part: what is matched
 --   told: an answer, read from its enum; field-matched, field-refused: what the match of a field says
-use Prim.Native.Nat.{ℕ, _+_, _*_, _-_, _≤_, _<_}
+use Prim.Native.Nat.{ℕ, _+_, _*_, _-_, _<_}
 use mathlib.Core.Path.{_≡_, refl, subst}
-use mathlib.Core.Bool.{Bool, false}
 use mathlib.Core.List.{List}
 use native.Mathlib.Omega.{arith}
-use borrow.Author.Count.{below-more}
 use lib.ListN.{length, getD, take, drop}
 use Rattle.scope.specs.Answers.{ACCEPTED, matchedNumber, matchedPlace}
 use Rattle.scope.specs.Limits.{byteValues, roomBytes}
 use Rattle.scope.specs.Operations.Match.{Matches}
 use Rattle.scope.specs.declared.Matched.{Matched}
 use Rattle.scope.proofs.Operations.Match.{determined}
-use Rattle.buffers.specs.Stored.{Decides}
-use Rattle.buffers.proofs.OneMore.{fails, part-all}
-use Rattle.entry_form.specs.Text.{Literal, fieldRoom, IsAccepted}
+use Rattle.buffers.proofs.OneMore.{part-all}
+use Rattle.entry_form.specs.Text.{fieldRoom, IsAccepted}
 use Rattle.entry_form.specs.EntryForm.{textLimit, textsAt, lengthOf, textOf}
-use Rattle.entry_form.specs.ValidForm.{NoKeys}
 use Rattle.entry_form.proofs.Texts.{text-bytes}
-
--- one byte more that is no key
-pub no-keys : {r : Bool} (form : List ℕ) {from i : ℕ} → Literal (getD form i 0) → Decides r (NoKeys form from i) → Decides r (NoKeys form from (i + 1))
-no-keys form {from} {i} l d = record {
-  yes = λ e. below-more (λ (j : ℕ). from ≤ j → Literal (getD form j 0)) i (d .yes e) (λ h. l);
-  no = λ e f. d .no e (λ j h. f j (omega arith));
-}
-
--- one byte more that is a key
-pub key-found : (form : List ℕ) {from i : ℕ} → from ≤ i → (Literal (getD form i 0) → ⊥) → Decides false (NoKeys form from (i + 1))
-key-found form {i = i} h n = fails (λ f. n (f i (omega arith) h))
 
 -- the part of the rooms that begins with the room of a field is that room
 pub room-part : (rooms : List ℕ) (f : ℕ) → take (length rooms - f * roomBytes) (drop (f * roomBytes) rooms) ≡ fieldRoom rooms f

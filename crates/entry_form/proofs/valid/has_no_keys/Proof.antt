@@ -1,13 +1,14 @@
 -- `none` decides whether no byte so far is a key.
-use Prim.Native.Nat.{_-_, _≤_}
+use Prim.Native.Nat.{ℕ, _-_, _≤_}
 use mathlib.Core.Path.{_≡_}
 use mathlib.Core.Logic.{⊎-elim}
 use native.Mathlib.Omega.{arith}
 use borrow.Author.Needs.{needs}
-use Rattle.buffers.proofs.OneMore.{holds}
+use lib.ListN.{getD}
 use Rattle.buffers.specs.Stored.{Decides}
+use Rattle.buffers.proofs.OneMore.{holds, each-more, each-not}
+use Rattle.entry_form.specs.Text.{Literal}
 use Rattle.entry_form.specs.ValidForm.{NoKeys}
-use Rattle.entry_form.proofs.FieldTests.{no-keys, key-found}
 use Rattle.entry_form.proofs.valid.has_no_keys.Statement.{statement}
 use Rattle.entry_form.proofs.valid.has_no_keys.Tie as tie
 
@@ -23,14 +24,14 @@ loop-holds c = (search needs, search needs, holds (λ i h k. absurd (omega arith
 loop-again : tie.Need-loop-again Inv-loop μ-loop
 loop-again c =
     let v = c .before .before .before .before .loop .inv in
-    let form = c .before .before .before .before .before .args .form .now in (
+    let literal : ℕ → Type 0 = λ i. Literal (getD (c .before .before .before .before .before .args .form .now) i 0) in (
       omega (arith, v .0),
       omega arith,
       ⊎-elim
-          (λ w. rw (w .1) (key-found form (v .0) (λ l. l .1 (w .0 .taken))))
+          (λ w. rw (w .1) (each-not literal (v .0) (v .2) (λ l. omega (arith, l, w .0 .taken))))
           (λ w. rw (w .1) (⊎-elim
-          (λ u. rw (u .1) (key-found form (v .0) (λ l. l .0 (u .0 .taken))))
-          (λ u. rw (u .1) (no-keys form (u .0 .left, w .0 .left) (v .2)))
+          (λ u. rw (u .1) (each-not literal (v .0) (v .2) (λ l. omega (arith, l, u .0 .taken))))
+          (λ u. rw (u .1) (each-more literal (v .0) (v .2) (u .0 .left, w .0 .left)))
           (c .before .if1 .came)))
           (c .if2 .came),
     )
