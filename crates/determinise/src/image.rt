@@ -1,8 +1,10 @@
 // The room image: its classes, the rows, then the head and the marks.
 ghost use mathlib.Core.Path.{_≡_};
 ghost use Prim.Native.Nat.{_+_, _-_, _*_, _≤_};
+ghost use lib.Bits.{bitOr};
 ghost use lib.ListN.{length};
 ghost use Rattle.scope.specs.Limits.{classLimit, stateLimit, marksAt, roomBytes, setWords};
+ghost use Rattle.scope.specs.Positions.Bits.{given};
 ghost use Rattle.buffers.specs.Stored.{Stored};
 ghost use Rattle.sets.specs.Value.{setValue};
 ghost use Rattle.sets.specs.Layout.{setsAt};
@@ -22,6 +24,13 @@ fn write_map(image: &mut [u8], map: [u8; Machine::BYTES])
 {
     buffers::fill(image, 0, Machine::ROOM, 0);
     buffers::write_classes(image, &map);
+}
+
+// The positions of Last, and the state 0 if the expression is nullable.
+pub fn finals(last: Set, null: bool) -> Set
+    ensures { λ r. ⌜ setValue (r .words) ≡ bitOr (setValue (last .words)) (given null 1) ⌝ }
+{
+    if null { last.with(0) } else { last }
 }
 
 // The mark of a set: 1 if it has a final position, else 0.
@@ -62,7 +71,7 @@ fn write_states(image: &mut [u8], words: &[u64], n: usize, k: usize, finals: Set
     write_marks(image, words, n, finals);
 }
 
-// Writes the image whose states are the reached sets: Done, or States if there are too many.
+// Writes the image whose states are the reached sets, {0} first: Done, or States if there are too many.
 pub fn determinise(
     image: &mut [u8],
     words: &mut [u64],

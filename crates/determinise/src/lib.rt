@@ -1,9 +1,6 @@
 // From the sets of positions of an expression to a sound room image whose states are the reached sets: `runs` finds the runs of byte values, `classes` gives their
 // classes and masks, `reach` finds the reached sets row by row, and `image` writes the room around them.
-ghost use mathlib.Core.Path.{_≡_};
 ghost use Prim.Native.Nat.{_≤_};
-ghost use lib.Bits.{bitOr};
-ghost use Rattle.scope.specs.Positions.Bits.{given};
 ghost use Rattle.scope.specs.Operations.Buffers.{Scratch};
 ghost use Rattle.scope.specs.Limits.{positionLimit};
 ghost use Rattle.sets.specs.Value.{setValue};
@@ -19,13 +16,6 @@ pub enum Built {
     Done,
     Classes,
     States,
-}
-
-// The positions of Last, and the state 0 if the expression is nullable.
-fn finals(last: Set, null: bool) -> Set
-    ensures { λ r. ⌜ setValue (r .words) ≡ bitOr (setValue (last .words)) (given null 1) ⌝ }
-{
-    if null { last.with(0) } else { last }
 }
 
 // Groups the byte values, determinises, and writes a sound room image into the scratch.
@@ -48,7 +38,7 @@ pub fn build(bytes: &mut [u8], words: &mut [u64], count: usize, last: Set, null:
                 &masks,
                 map,
                 k,
-                finals(last, null),
+                image::finals(last, null),
             )
         }
         Counted::Many => Built::Classes,

@@ -63,15 +63,10 @@ pub fn after_back(mut x: Reading, b: u8) -> Reading
     }
     let piece = x.piece;
     if piece == Reading::ATOM {
-        if b == b'e' {
+        if b == b'e' || b == b'0' {
             x.stage = Reading::DONE;
             return x;
         }
-        if b == b'0' {
-            x.stage = Reading::DONE;
-            return x;
-        }
-        return x.stuck();
     }
     x.stuck()
 }

@@ -13,7 +13,6 @@ mod show;
 use scope::Compared;
 use scope::Machine;
 use scope::Matched;
-use scope::Packed;
 ghost use Prim.Native.Nat.{_≤_};
 ghost use lib.ListN.{length};
 
@@ -22,14 +21,14 @@ fn compiles(pattern: &[u8]) {
     let mut room = [0u8; Machine::ROOM];
     let mut bytes = [7u8; Machine::SCRATCH_BYTES];
     let mut words = [7u64; Machine::SCRATCH_WORDS];
-    let answer = compile::compile(pattern, &mut room, &mut bytes, &mut words);
-    let number = answer.number();
+    let mut place: usize = 7;
+    let number = compile_numbers::compile(pattern, &mut room, &mut bytes, &mut words, &mut place);
     if number == 0 {
         show::sizes(&room);
         return;
     }
     show::refused(number);
-    show::number(b" at ", answer.place());
+    show::number(b" at ", place);
 }
 
 // Minimises a room.
@@ -37,7 +36,7 @@ fn minimises(from: &[u8]) {
     let mut to = [7u8; Machine::ROOM];
     let mut bytes = [7u8; Machine::SCRATCH_BYTES];
     let mut words = [7u64; Machine::SCRATCH_WORDS];
-    let number = smallest::minimise(from, &mut to, &mut bytes, &mut words).number();
+    let number = minimise_numbers::minimise(from, &mut to, &mut bytes, &mut words);
     if number == 0 {
         show::sizes(&to);
         return;
@@ -52,17 +51,19 @@ fn matches(room: &[u8], text: &[u8]) {
         Matched::Accepted => show::text(b"accepted"),
         Matched::Dead(place) => show::number(b"dead ", place),
         Matched::Unfinished => show::text(b"unfinished"),
-        Matched::Room => show::refused(answer.number()),
-        Matched::Form => show::refused(answer.number()),
+        _ => show::refused(answer.number()),
     }
 }
 
-// Compares two rooms.
-fn compares(left: &[u8], right: &[u8]) {
+// Compares a room with that of a name or a pattern.
+fn compares(left: &[u8], given: &[u8]) {
+    let start: usize = 0;
+    let right = rooms::room_of(given);
+    let long = rooms::length_of(given);
     let mut word = [7u8; Machine::WORD];
     let mut bytes = [7u8; Machine::SCRATCH_BYTES];
     let mut words = [7u64; Machine::SCRATCH_WORDS];
-    let answer = compare::compare(left, right, &mut word, &mut bytes, &mut words);
+    let answer = compare::compare(left, &right[start..long], &mut word, &mut bytes, &mut words);
     match answer {
         Compared::Same(rounds) => show::number(b"same rounds ", rounds),
         Compared::Separated(length, rounds) => {
@@ -70,8 +71,7 @@ fn compares(left: &[u8], right: &[u8]) {
             show::word(&word, length);
             show::number(b" rounds ", rounds);
         }
-        Compared::Room => show::refused(answer.number()),
-        Compared::Form => show::refused(answer.number()),
+        _ => show::refused(answer.number()),
     }
 }
 
@@ -80,12 +80,13 @@ fn packs(room: &[u8]) {
     let mut form = [7u8; Machine::ROOM];
     let mut bytes = [7u8; Machine::SCRATCH_BYTES];
     let mut words = [7u64; Machine::SCRATCH_WORDS];
-    let answer = packing::pack(room, &mut form, &mut bytes, &mut words);
-    match answer {
-        Packed::Done(length) => show::number(b"bytes ", length),
-        Packed::Room => show::refused(answer.number()),
-        Packed::Form => show::refused(answer.number()),
+    let mut length: usize = 7;
+    let number = pack_numbers::pack(room, &mut form, &mut bytes, &mut words, &mut length);
+    if number == 0 {
+        show::number(b"bytes ", length);
+        return;
     }
+    show::refused(number);
 }
 
 // Where the word behind the one that ends at `end` begins.
@@ -97,27 +98,34 @@ fn behind(line: &[u8], end: usize) -> usize
 }
 
 // Answers an operation on a room, and on what else it is given.
+fn asks_room(operation: &[u8], room: &[u8], other: &[u8]) {
+    if rooms::are_same(operation, b"table") {
+        show::table(room);
+    }
+    if rooms::are_same(operation, b"minimise") {
+        minimises(room);
+    }
+    if rooms::are_same(operation, b"match") {
+        matches(room, other);
+    }
+    if rooms::are_same(operation, b"compare") {
+        compares(room, other);
+    }
+    if rooms::are_same(operation, b"pack") {
+        packs(room);
+    }
+}
+
+// Answers an operation on what it is given.
 fn asks(operation: &[u8], given: &[u8], other: &[u8]) {
+    if rooms::are_same(operation, b"compile") {
+        compiles(given);
+        return;
+    }
     let start: usize = 0;
     let room = rooms::room_of(given);
     let long = rooms::length_of(given);
-    if rooms::are_same(operation, b"table") {
-        show::table(&room);
-    }
-    if rooms::are_same(operation, b"minimise") {
-        minimises(&room[start..long]);
-    }
-    if rooms::are_same(operation, b"match") {
-        matches(&room[start..long], other);
-    }
-    if rooms::are_same(operation, b"compare") {
-        let right = rooms::room_of(other);
-        let wide = rooms::length_of(other);
-        compares(&room[start..long], &right[start..wide]);
-    }
-    if rooms::are_same(operation, b"pack") {
-        packs(&room[start..long]);
-    }
+    asks_room(operation, &room[start..long], other);
 }
 
 // Answers a question.
@@ -127,10 +135,6 @@ fn answers(line: &[u8]) {
     let from = behind(line, end);
     let to = bytes::scan::find(line, from, line.len(), b' ');
     let rest = behind(line, to);
-    if rooms::are_same(&line[start..end], b"compile") {
-        compiles(&line[from..to]);
-        return;
-    }
     asks(&line[start..end], &line[from..to], &line[rest..]);
 }
 

@@ -78,7 +78,9 @@ fn rows(room: &[u8])
 }
 
 // Prints the states that accept, between commas, `-` if there are none.
-fn accepting(room: &[u8; Machine::ROOM]) {
+fn accepting(room: &[u8])
+    requires { ⌜ Sound (now room) ⌝ }
+{
     let mut none = true;
     let mut q: usize = 0;
     while q < Machine::STATES {
@@ -97,7 +99,7 @@ fn accepting(room: &[u8; Machine::ROOM]) {
 }
 
 // Prints the table of a room, if it is sound.
-pub fn table(room: &[u8; Machine::ROOM]) {
+pub fn table(room: &[u8]) {
     if room::is_sound(room) {
         rows(room);
         text(b" ");

@@ -14,6 +14,7 @@
 --   runModes x w: the state after the bytes w, from x
 --   runTo s i: the state after the first i bytes of s, from the initial one
 use Prim.Native.Nat.{ℕ, zero, suc}
+use Prim.Native.Char as char
 use mathlib.Core.Bool.{Bool, true, false, cond}
 use mathlib.Core.List.{List, [], _∷_}
 use lib.Dec.{eqb, ltb}
@@ -49,13 +50,13 @@ bareIn high = classLiteral
 
 -- `.`, `[` and `(`, with which an atom alone begins
 abbrev pub opens : Piece → ℕ → ℕ → State → State
-opens atom n b x = cond (eqb 46 b) (at afterAtom n) (cond (eqb 91 b) (at (await low) n) (cond (eqb 40 b) (at (await atom) (suc n)) x))
+opens atom n b x = cond (eqb (char.code ".") b) (at afterAtom n) (cond (eqb (char.code "[") b) (at (await low) n) (cond (eqb (char.code "(") b) (at (await atom) (suc n)) x))
 opens low n b x = x
 opens high n b x = x
 
 -- a byte that stands for itself, a backslash, or one of those three
 abbrev pub begins : Piece → ℕ → ℕ → State → State
-begins p n b x = cond (bareIn p b) (at (done p) n) (cond (eqb 92 b) (at (back p) n) (opens p n b x))
+begins p n b x = cond (bareIn p b) (at (done p) n) (cond (eqb (char.code "\\") b) (at (back p) n) (opens p n b x))
 
 -- the piece that may follow at once
 abbrev pub again : Piece → Piece
@@ -70,20 +71,20 @@ closes (suc n) = at afterAtom n
 
 -- `*`, `|` and `)` after an atom, `-` and `]` in a class
 abbrev pub ends : Piece → ℕ → ℕ → State
-ends atom n b = cond (eqb 42 b) (at afterAtom n) (cond (eqb 124 b) (at (await atom) n) (cond (eqb 41 b) (closes n) stuck))
-ends low n b = cond (eqb 45 b) (at (await high) n) (cond (eqb 93 b) (at afterAtom n) stuck)
-ends high n b = cond (eqb 93 b) (at afterAtom n) stuck
+ends atom n b = cond (eqb (char.code "*") b) (at afterAtom n) (cond (eqb (char.code "|") b) (at (await atom) n) (cond (eqb (char.code ")") b) (closes n) stuck))
+ends low n b = cond (eqb (char.code "-") b) (at (await high) n) (cond (eqb (char.code "]") b) (at afterAtom n) stuck)
+ends high n b = cond (eqb (char.code "]") b) (at afterAtom n) stuck
 
 -- `\e` and `\0`, which are atoms alone
 abbrev pub empties : Piece → ℕ → ℕ → State
-empties atom n b = cond (eqb 101 b) (at afterAtom n) (cond (eqb 48 b) (at afterAtom n) stuck)
+empties atom n b = cond (eqb (char.code "e") b) (at afterAtom n) (cond (eqb (char.code "0") b) (at afterAtom n) stuck)
 empties low n b = stuck
 empties high n b = stuck
 
 abbrev pub next : Mode → ℕ → ℕ → State
 next (await p) n b = begins p n b stuck
 next (done p) n b = begins (again p) n b (ends p n b)
-next (back p) n b = cond (escapable b) (at (done p) n) (cond (eqb 120 b) (at (code p) n) (empties p n b))
+next (back p) n b = cond (escapable b) (at (done p) n) (cond (eqb (char.code "x") b) (at (code p) n) (empties p n b))
 next (code p) n b = cond (ltb (hex b) 16) (at (digit p) n) stuck
 next (digit p) n b = cond (ltb (hex b) 16) (at (done p) n) stuck
 

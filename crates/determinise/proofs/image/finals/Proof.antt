@@ -2,8 +2,8 @@
 use mathlib.Core.Path.{sym}
 use borrow.Author.Needs.{needs}
 use lib.Bits.{or-zero-r}
-use Rattle.determinise.proofs.finals.Statement.{statement}
-use Rattle.determinise.proofs.finals.Tie as tie
+use Rattle.determinise.proofs.image.finals.Statement.{statement}
+use Rattle.determinise.proofs.image.finals.Tie as tie
 
 returns : tie.Need-returns
 returns c = rw (c .before .if1 .taken) (c .with .ensures)
