@@ -3,7 +3,7 @@
 // A form is a lent buffer, and the machine rooms are lent end to end with every call. Nothing is kept between calls, so each key judges all that it is lent:
 // that the machines are sound, and that the form is one that they and some keys can give. Of the library the desk uses the contracts of matching and of the
 // test whether a room is sound, beside the helpers on slices, and not how they do it. A key costs one judgement of each room, one pass over each closed text,
-// and one match of the open field. The rules are those of `entries`; `forms` judges a form, `standings` how its open field stands; `pressing` and `typing` do the keys.
+// and one match of the open field. The rules are those of `desk_rules`; `entry_form` judges a form, `standings` how its open field stands; `pressing` and `typing` do the keys.
 pub use desk_rules::Opened;
 pub use desk_rules::Pressed;
 use entry_form::FIELDS;

@@ -1,5 +1,5 @@
 // The rules of the entry desk: what is entered, what a key does to it and what it answers, the form that shows an entry, and the contracts of opening a form and of
-// a key. They stand in `specs`, over those of `forms`; here are the answers. That a form passes the test exactly if keys can give it is a theorem in `proofs`.
+// a key. They stand in `specs`, over those of `entry_form`; here are the answers. That a form passes the test exactly if keys can give it is a theorem in `proofs`.
 ghost use mathlib.Core.Path.{_≡_};
 ghost use Rattle.desk_rules.specs.DeskAnswers.{openedNumber, pressedNumber};
 

@@ -1,4 +1,4 @@
-// From the sets of positions of an expression to a sound room image whose states are the reached sets: `runs` finds the runs of byte values, `classes` gives their
+// From the sets of positions of an expression to a sound room image whose states are the reached sets: `byte_runs` finds the runs of byte values, `byte_classes` gives their
 // classes and masks, `reach` finds the reached sets row by row, and `image` writes the room around them.
 ghost use Prim.Native.Nat.{_≤_};
 ghost use Rattle.scope.specs.Operations.Buffers.{Scratch};

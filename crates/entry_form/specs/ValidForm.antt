@@ -1,4 +1,4 @@
--- The test of a form, byte by byte: exactly what these machines and keys can give (`given-exact` in `entries`, proofs/Exact).
+-- The test of a form, byte by byte: exactly what these machines and keys can give (`given-exact` in `desk_rules`, proofs/Exact).
 --   Plain form f: the field f has at most 128 bytes, none of them a key, and zero after them
 --   Empty form f: the field f has no text
 --   OpenText room text: a text that a field can have while it is open: empty, or not Dead

@@ -13,7 +13,7 @@ ghost use Rattle.parting.specs.Named.{LeastLike, OnePart, Agree, Led};
 ghost use Rattle.parting.specs.CellRows.{rowWidth, rowCells, CellRows};
 ghost use Rattle.parting.specs.Chain.{Chain};
 
-// How many cells a row has, and the rows of all states. Most states that differ do so by the first few kinds.
+// How many cells a row has, and the rows of all states.
 pub const ROW: usize = 4;
 
 pub const ROWS: usize = two_rooms::STATES * ROW;
