@@ -1,7 +1,7 @@
 // Answers the questions on its standard input, one a line: prints each, an arrow, and what was answered. A question is an operation and what it is given, between
 // spaces; what is missing is empty.
 //   compile PATTERN: states N classes K, or refused NUMBER at PLACE
-//   table ROOM: the rows of the table, between /, and the states that accept, - if there is none
+//   table ROOM: the rows of the table, between /, and the states that accept, - if there is none; nothing if the room is not sound
 //   minimise ROOM: states N classes K
 //   match ROOM TEXT: accepted, unfinished, or dead PLACE
 //   compare ROOM ROOM: same rounds R, or separated WORD rounds R, the word in hex, - if it is empty
