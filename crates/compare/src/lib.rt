@@ -4,11 +4,11 @@
 // round after which the starts are not together says how long the string is that tells them apart, and it is spelled.
 //
 // Where both rooms hold one machine byte for byte, they are the same, and its states are refined once.
-use scope::Compared;
+use answers::Compared;
 use scope::Machine;
 ghost use Prim.Native.Nat.{_≤_};
 ghost use lib.ListN.{length};
-ghost use Rattle.scope.specs.Answers.{comparedNumber, comparedLength, comparedRounds};
+ghost use Rattle.answers.specs.Numbers.{comparedNumber, comparedLength, comparedRounds};
 ghost use Rattle.scope.specs.Operations.Compare.{CompareLent, Compares};
 ghost use Rattle.scope.specs.Limits.{wordBytes};
 ghost use Rattle.scope.specs.Machines.Room.{machine, Sound};

@@ -1,11 +1,11 @@
 // Compiling a pattern: the text is judged, read to its sets of positions, built into a machine in the scratch, and made smallest into the room.
+use answers::Compiled;
 use determinise::Built;
 use judge::Judged;
 use pattern::Shape;
-use scope::Compiled;
 use scope::Machine;
 use sets::layout;
-ghost use Rattle.scope.specs.Answers.{compiledNumber, compiledPlace};
+ghost use Rattle.answers.specs.Numbers.{compiledNumber, compiledPlace};
 ghost use Rattle.scope.specs.Operations.Buffers.{Scratch, Lent};
 ghost use Rattle.scope.specs.Operations.Compile.{Compiles};
 ghost use Rattle.pattern.specs.PatternSets.{Faultless};

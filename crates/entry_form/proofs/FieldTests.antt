@@ -6,10 +6,11 @@ use mathlib.Core.Path.{_≡_, refl, subst}
 use mathlib.Core.List.{List}
 use native.Mathlib.Omega.{arith}
 use lib.ListN.{length, getD, take, drop}
-use Rattle.scope.specs.Answers.{ACCEPTED, matchedNumber, matchedPlace}
+use Rattle.scope.specs.Answers.{ACCEPTED}
+use Rattle.answers.specs.Numbers.{matchedNumber, matchedPlace}
 use Rattle.scope.specs.Limits.{byteValues, roomBytes}
 use Rattle.scope.specs.Operations.Match.{Matches}
-use Rattle.scope.specs.declared.Matched.{Matched}
+use Rattle.answers.specs.declared.Matched.{Matched}
 use Rattle.scope.proofs.Operations.Match.{determined}
 use Rattle.buffers.proofs.OneMore.{part-all}
 use Rattle.entry_form.specs.Text.{fieldRoom, IsAccepted}

@@ -1,10 +1,10 @@
 // Matching a text against a machine room: one plain pass over the text, and a second, to the place where it died, only if it is dead.
+use answers::Matched;
 use scope::Machine;
-use scope::Matched;
 ghost use mathlib.Core.Path.{_≡_};
 ghost use Prim.Native.Nat.{_<_};
 ghost use lib.ListN.{drop};
-ghost use Rattle.scope.specs.Answers.{matchedNumber, matchedPlace};
+ghost use Rattle.answers.specs.Numbers.{matchedNumber, matchedPlace};
 ghost use Rattle.scope.specs.Machines.Machine.{run};
 ghost use Rattle.scope.specs.Operations.Match.{DeadAt, Matches};
 ghost use Rattle.scope.specs.Limits.{cellsAt};

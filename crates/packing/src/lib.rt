@@ -1,9 +1,9 @@
 // Packing a canonical machine into its form, and unpacking a form into the machine. A form is taken only if it is that of a canonical room, so each undoes the other.
+use answers::Packed;
+use answers::Unpacked;
 use scope::Machine;
-use scope::Packed;
-use scope::Unpacked;
 ghost use mathlib.Core.Path.{_≡_};
-ghost use Rattle.scope.specs.Answers.{packedNumber, packedLength, unpackedNumber};
+ghost use Rattle.answers.specs.Numbers.{packedNumber, packedLength, unpackedNumber};
 ghost use Rattle.scope.specs.Machines.Canonical.{Canonical};
 ghost use Rattle.scope.specs.Operations.Pack.{Packs};
 ghost use Rattle.scope.specs.Operations.Unpack.{Unpacks};

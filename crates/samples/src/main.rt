@@ -10,9 +10,9 @@
 mod rooms;
 mod show;
 
-use scope::Compared;
+use answers::Compared;
+use answers::Matched;
 use scope::Machine;
-use scope::Matched;
 ghost use Prim.Native.Nat.{_≤_};
 ghost use lib.ListN.{length};
 

@@ -9,5 +9,3 @@ pub mod Operations
 pub mod Told
 pub mod Refusals
 pub mod Demands
--- The samples
-pub mod Sampled

@@ -1,5 +1,4 @@
 -- The contracts determine their results.
-pub mod Answers
 pub mod Buffers
 pub mod Determined
 pub mod Compile

@@ -4,11 +4,12 @@
 --   ByteSet: a set of bytes, by its test
 --   between, isIn: the tests from which the sets of 01 are made
 --   ascii "..": the bytes of a quoted text
-use Prim.Native.Nat.{ℕ, _<_}
+--   listed f n: the list of f 0 .. f (n - 1)
+use Prim.Native.Nat.{ℕ, zero, suc, _<_}
 use Prim.Native.Char.{code}
 use Prim.Native.String as text
 use mathlib.Core.Bool.{Bool, false, _&&_, _||_}
-use mathlib.Core.List.{List, [], _∷_}
+use mathlib.Core.List.{List, [], _∷_, _++_}
 use lib.Dec.{leb, eqb}
 use lib.ListN.{getD}
 use Rattle.scope.specs.Limits.{byteValues}
@@ -36,3 +37,7 @@ isIn (c ∷ l) b = eqb b c || isIn l b
 abbrev pub ascii : text.String → List ℕ
 ascii text.[] = []
 ascii (text._∷_ c s) = code c ∷ ascii s
+
+unfoldable pub listed : (ℕ → ℕ) → ℕ → List ℕ
+listed f zero = []
+listed f (suc n) = listed f n ++ (f n ∷ [])

@@ -17,6 +17,5 @@ pub mod Operations
 pub mod Packing
 -- The three demands, on the contracts
 pub mod Demands
--- The program's lines, and the sample patterns
+-- The program's lines
 pub mod Lines
-pub mod Samples

@@ -13,8 +13,8 @@ use lib.Seq.{getD-drop}
 use Rattle.scope.specs.Limits.{classesAt, cellsAt, roomBytes}
 use Rattle.scope.specs.Machines.Room.{statesOf, classesOf, machine, Sound, SameBytes}
 use Rattle.scope.specs.Machines.Canonical.{Canonical}
-use Rattle.scope.specs.Samples.{listed}
-use Rattle.scope.proofs.Sampled.Table.{listed-length, listed-at}
+use Rattle.scope.specs.Bytes.{listed}
+use Rattle.scope.proofs.Counting.Lists.{listed-length, listed-at}
 use Rattle.scope.proofs.Machines.Room.{bytes-from-parts}
 use Rattle.scope.proofs.Machines.Run.{sound-closed}
 use Rattle.scope.proofs.Machines.SameMoves.{agree-same}

@@ -2,12 +2,12 @@
 // first arrival; kinds of bytes that every state sends alike share a class; and what came out is written as a room. A room is canonical if nothing of it would change.
 mod stay;
 
+use answers::Minimised;
 use scope::Machine;
-use scope::Minimised;
 use smallest_plan::Plan;
 ghost use Prim.Native.Nat.{_≤_};
 ghost use lib.ListN.{length};
-ghost use Rattle.scope.specs.Answers.{minimisedNumber};
+ghost use Rattle.answers.specs.Numbers.{minimisedNumber};
 ghost use Rattle.scope.specs.Limits.{roomBytes};
 ghost use Rattle.scope.specs.Machines.Machine.{Equal};
 ghost use Rattle.scope.specs.Machines.Room.{machine, Sound};

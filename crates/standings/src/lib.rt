@@ -1,9 +1,9 @@
 // How the open field stands: one match of its text, or of its text with a byte after it. The place where a text died tells whether it was dead before that byte.
+use answers::Matched;
 use entry_form::LENGTHS_AT;
 use entry_form::TEXT;
 use entry_form::TEXTS_AT;
 use scope::Machine;
-use scope::Matched;
 ghost use Prim.Native.Nat.{_+_, _*_, _<_, _≤_};
 ghost use mathlib.Core.List.{[], _∷_, _++_};
 ghost use lib.ListN.{length};

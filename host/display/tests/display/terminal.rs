@@ -125,6 +125,10 @@ impl Display {
         // Sound: between fork and exec this only calls the system, and takes no memory or lock.
         unsafe {
             command.pre_exec(|| {
+                // A signal may be ignored where these tests were started, as by nohup, and would be so in the program.
+                for signal in [libc::SIGTERM, libc::SIGHUP, libc::SIGINT] {
+                    libc::signal(signal, libc::SIG_DFL);
+                }
                 checked(libc::setsid())?;
                 checked(libc::ioctl(0, libc::TIOCSCTTY, 0))
             })

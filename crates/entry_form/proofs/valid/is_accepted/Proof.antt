@@ -3,8 +3,9 @@ use mathlib.Core.Path.{_≡_}
 use mathlib.Core.Bool.{false}
 use native.Mathlib.Omega.{arith}
 use borrow.Author.Needs.{needs}
-use Rattle.scope.specs.Answers.{ACCEPTED, matchedNumber}
-use Rattle.scope.specs.declared.Matched.{Matched}
+use Rattle.scope.specs.Answers.{ACCEPTED}
+use Rattle.answers.specs.Numbers.{matchedNumber}
+use Rattle.answers.specs.declared.Matched.{Matched}
 use Rattle.buffers.specs.Stored.{Decides}
 use Rattle.buffers.proofs.OneMore.{holds, fails}
 use Rattle.entry_form.specs.EntryForm.{textOf}

@@ -10,18 +10,18 @@ use mathlib.Core.List.{List, [], _∷_, _++_}
 use native.Mathlib.Omega.{arith}
 use lib.Dec.{eqb, leb}
 use lib.ListN.{length, take, getD}
 use Rattle.scope.specs.Bytes.{Bytes, isIn}
 use Rattle.scope.specs.Answers.{ACCEPTED, DEAD, UNFINISHED}
 use Rattle.scope.specs.Machines.Machine.{Machine, run, Completable}
 use Rattle.scope.specs.Machines.Room.{machine}
 use Rattle.scope.specs.Operations.Match.{Matches, accepted, dead, unfinished}
-use Rattle.scope.specs.Samples.{Sample, statesIn, classesIn, classIn, sampleCell, sampleRoom}
+use Rattle.sample_rows.specs.Samples.{Sample, statesIn, classesIn, classIn, sampleCell, sampleRoom}
 use Rattle.scope.specs.Tests.{Tests}
 use Rattle.scope.proofs.Counting.Tests.{which, all, all-is, or, and, itself, equals, at-most, pair}
 use Rattle.scope.proofs.Machines.Run.{run-append, run-below, bytes-append, bytes-take}
 use Rattle.scope.proofs.Machines.SameMoves.{agree-same}
-use Rattle.scope.proofs.Sampled.Table.{tableOf, Small, room-sound, room-agrees, table-closed}
-use Rattle.scope.proofs.Sampled.Numbering.{isBytes, bytes-by}
+use Rattle.sample_rows.proofs.Table.{tableOf, Small, room-sound, room-agrees, table-closed}
+use Rattle.sample_rows.proofs.Numbering.{isBytes, bytes-by}
 
 -- ---- the test
 

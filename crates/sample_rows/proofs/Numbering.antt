@@ -11,16 +11,16 @@ use mathlib.Core.List.{List, [], _∷_}
 use native.Mathlib.Omega.{arith}
 use lib.Dec.{eqb, leb, ltb}
 use lib.ListN.{getD}
 use Rattle.scope.specs.Limits.{byteValues}
 use Rattle.scope.specs.Bytes.{Bytes}
 use Rattle.scope.specs.Machines.Machine.{Machine, run, Same, Reached}
 use Rattle.scope.specs.Machines.Room.{statesOf, classesOf, classOf, cellOf, nextOf, machine}
 use Rattle.scope.specs.Machines.Canonical.{met, Arrival, entry, Canonical}
-use Rattle.scope.specs.Samples.{Sample, statesIn, classesIn, classIn, sampleCell, sampleRoom}
+use Rattle.sample_rows.specs.Samples.{Sample, statesIn, classesIn, classIn, sampleCell, sampleRoom}
 use Rattle.scope.proofs.Counting.Tests.{which, split, all, all-is, any, any-is, or, itself, equals, below, at-most, pair}
 use Rattle.scope.proofs.Counting.Arrival.{arrival-ext}
 use Rattle.scope.proofs.Machines.SameMoves.{SameMoves, agree-same, agree-reached}
-use Rattle.scope.proofs.Sampled.Table.{tableOf, Small, room-sound, room-agrees, room-states, room-classes, room-class, table-closed}
+use Rattle.sample_rows.proofs.Table.{tableOf, Small, room-sound, room-agrees, room-states, room-classes, room-class, table-closed}
 
 -- ---- numbering by first arrival
 

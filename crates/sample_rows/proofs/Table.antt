@@ -2,24 +2,23 @@
 -- wherever there is a state and a byte. The list of 8,578 bytes is never written out.
 --   tableOf g: the machine of the table
 --   Small, isSmall: the table fits a room, and the test of it
---   listed-length, listed-at: the elements of a listing
 --   room-sound, room-agrees: its room is sound and holds the machine of the table
-use Prim.Native.Nat.{ℕ, zero, suc, _+_, _-_, _*_, _/_, _%_, _≤_, _<_}
+use Prim.Native.Nat.{ℕ, _+_, _-_, _*_, _/_, _%_, _≤_, _<_}
 use mathlib.Core.Path.{_≡_, refl, sym, ap, _∙_}
 use mathlib.Core.Bool.{Bool, true, _&&_}
 use mathlib.Core.Logic.{inl, inr}
-use mathlib.Core.List.{List, [], _∷_}
+use mathlib.Core.List.{List, []}
 use native.Mathlib.Nat.{mul-le-mul, mul-le-mul-right, suc-mul, mul-add-div-right, mul-add-mod-self-right, div-eq-of-lt, mod-eq-of-lt, mod-lt, div-lt-iff-lt-mul}
 use native.Mathlib.Omega.{arith}
 use lib.Dec.{eqb, leb, ltb}
-use lib.ListN.{length, getD, length-append, List·getD-append, List·getD-eq-default}
-use lib.Seq.{getD-at}
+use lib.ListN.{length, getD, List·getD-eq-default}
 use Rattle.scope.specs.Limits.{byteValues, classLimit, stateLimit, classesAt, marksAt, cellsAt, roomBytes}
 use Rattle.scope.specs.Machines.Machine.{Machine, Closed}
 use Rattle.scope.specs.Machines.Room.{statesOf, classesOf, classOf, markOf, nextOf, machine, Sound}
-use Rattle.scope.specs.Samples.{Sample, statesIn, classesIn, classIn, sampleCell, byteIn, listed, sampleRoom}
+use Rattle.sample_rows.specs.Samples.{Sample, statesIn, classesIn, classIn, sampleCell, byteIn, sampleRoom}
+use Rattle.scope.proofs.Counting.Lists.{listed-length, listed-at}
 use Rattle.scope.proofs.Counting.Tests.{split, all, all-is, below, not-below, at-most, pair}
 use Rattle.scope.proofs.Machines.SameMoves.{SameMoves}
 
 unfoldable pub tableOf : Sample → Machine
 tableOf g = record { states = statesIn g; next = λ q b. sampleCell g q (classIn g b); accepts = λ q. eqb (getD (g .marks) q 0) 1 }
@@ -65,20 +64,6 @@ small-by g e =
     }
 
 -- ---- the bytes of the room
-
--- a listing has as many elements as were asked for
-pub listed-length : (f : ℕ → ℕ) (n : ℕ) → length (listed f n) ≡ n
-unfolding listed
-listed-length f zero = refl
-listed-length f (suc n) = length-append (listed f n) (f n ∷ []) ∙ omega (arith, listed-length f n)
-
--- and each is what was listed
-pub listed-at : (f : ℕ → ℕ) (n i : ℕ) → i < n → getD (listed f n) i 0 ≡ f i
-unfolding listed
-listed-at f (suc n) i h = elim (split i n) [
-  | inl k ↦ List·getD-append (listed f n) (f n ∷ []) 0 i (omega (arith, listed-length f n)) ∙ listed-at f n i k
-  | inr k ↦ let e : i ≡ n = omega arith in rw e (getD-at (listed f n) (f n) [] 0 n (listed-length f n))
-]
 
 module _ (g : Sample) where
   pub room-length : length (sampleRoom g) ≡ roomBytes

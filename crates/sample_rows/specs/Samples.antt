@@ -5,27 +5,27 @@
 --   positions l: the set of the positions l, as a number
 --   Row, Says: a row, and what it says; Each l: what each row of a list says
 --   rows: the rows of 01
-use Prim.Native.Nat.{ℕ, zero, suc, _+_, _-_, _*_, _/_, _%_, _^_, _≤_, _<_}
+use Prim.Native.Nat.{ℕ, suc, _+_, _-_, _*_, _/_, _%_, _^_, _≤_, _<_}
 use Prim.Native.String.{String}
 use mathlib.Core.Path.{_≡_}
 use mathlib.Core.Bool.{Bool, true, false, cond}
-use mathlib.Core.List.{List, [], _∷_, _++_}
+use mathlib.Core.List.{List, [], _∷_}
 use lib.Bits.{bitOr}
 use lib.Dec.{ltb}
 use lib.ListN.{length, getD}
 use Rattle.scope.specs.Limits.{classesAt, marksAt, cellsAt, roomBytes, wordBytes}
-use Rattle.scope.specs.Bytes.{isIn, ascii}
+use Rattle.scope.specs.Bytes.{isIn, ascii, listed}
 use Rattle.scope.specs.Text.Re.{Re, size}
 use Rattle.scope.specs.Positions.Bits.{null, first, last, follow}
 use Rattle.scope.specs.Text.Tree.{Tree, expr}
 use Rattle.scope.specs.Text.Judge.{Pattern, SyntaxAt, RangeAt}
 use Rattle.scope.specs.Answers.{DONE, ACCEPTED, DEAD, UNFINISHED, SAME, SEPARATED}
 use Rattle.scope.specs.Packing.PackedForm.{formLength}
 use Rattle.scope.specs.Operations.Buffers.{Written, Scratch, Cleared}
 use Rattle.scope.specs.Operations.Compile.{Compiles}
 use Rattle.scope.specs.Operations.Match.{Matches}
 use Rattle.scope.specs.Operations.Compare.{Compares}
 use Rattle.scope.specs.Lines.{Side, Outcome, printed}
 
 -- ---- machines as 01 writes them
 
@@ -64,11 +64,6 @@ byteIn g i =
     cond (ltb i classesAt) (getD (statesIn g ∷ classesIn g ∷ []) i 0)
     (cond (ltb i marksAt) (classIn g (i - classesAt))
     (cond (ltb i cellsAt) (getD (g .marks) (i - marksAt) 0) (sampleCell g ((i - cellsAt) / classesIn g) ((i - cellsAt) % classesIn g))))
-
--- f 0 .. f (n - 1)
-unfoldable pub listed : (ℕ → ℕ) → ℕ → List ℕ
-listed f zero = []
-listed f (suc n) = listed f n ++ (f n ∷ [])
 
 unfoldable pub sampleRoom : Sample → List ℕ
 unfolding listed byteIn

@@ -9,22 +9,22 @@ use mathlib.Core.List.{List, [], _∷_}
 use native.Mathlib.Omega.{arith}
 use lib.Dec.{eqb, leb, ltb}
 use lib.ListN.{length, getD, List·getD-eq-default}
 use Rattle.scope.specs.Limits.{byteValues, classLimit, stateLimit, nestLimit, positionLimit, patternLimit}
 use Rattle.scope.specs.Bytes.{Bytes}
 use Rattle.scope.specs.Text.Re.{Re, Words}
 use Rattle.scope.specs.Positions.Bits.{holders, move, accepting}
 use Rattle.scope.specs.Text.Tree.{Tree, expr, falling, opened, places}
 use Rattle.scope.specs.Machines.Machine.{walk, run, Recognises}
 use Rattle.scope.specs.Positions.Reached.{Share, FewClasses, FewSets}
 use Rattle.scope.specs.Machines.Room.{machine}
 use Rattle.scope.specs.Operations.Compile.{Sized, compiled}
-use Rattle.scope.specs.Samples.{Sample, classIn, sampleCell, sampleRoom, Compiled}
+use Rattle.sample_rows.specs.Samples.{Sample, classIn, sampleCell, sampleRoom, Compiled}
 use Rattle.scope.proofs.Counting.Tests.{all, all-is, any, any-is, itself, equals, below, at-most, same-bool, pair}
-use Rattle.scope.proofs.Sampled.ReadsBy.{isPattern, reads-by}
+use Rattle.sample_rows.proofs.ReadsBy.{isPattern, reads-by}
 use Rattle.scope.proofs.Positions.Reached.{sets-exact, share-move}
 use Rattle.scope.proofs.Machines.SameMoves.{agree-same}
-use Rattle.scope.proofs.Sampled.Table.{tableOf, Small, isSmall, small-by, room-length, room-agrees, table-closed}
-use Rattle.scope.proofs.Sampled.Numbering.{isCanonical, canonical-by}
+use Rattle.sample_rows.proofs.Table.{tableOf, Small, isSmall, small-by, room-length, room-agrees, table-closed}
+use Rattle.sample_rows.proofs.Numbering.{isCanonical, canonical-by}
 
 pub record Help : Type 0 where
   pub tree : Tree

@@ -9,13 +9,13 @@ use mathlib.Core.List.{List, [], _∷_}
 use native.Mathlib.Omega.{arith}
 use lib.Dec.{ltb}
 use lib.ListN.{length, getD}
 use Rattle.scope.specs.Limits.{byteValues}
 use Rattle.scope.specs.Machines.Machine.{Machine, Closed}
 use Rattle.scope.specs.Machines.Rounds.{Together, Rests, Rounds}
 use Rattle.scope.specs.Tests.{Tests}
 use Rattle.scope.proofs.Counting.Tests.{and, implies, itself, same-bool, all, all-is, below, pair}
-use Rattle.scope.proofs.Sampled.Numbering.{differ, differ-by}
+use Rattle.sample_rows.proofs.Numbering.{differ, differ-by}
 use Rattle.scope.proofs.Machines.Separate.{Spelled, spelled-more}
 
 unfoldable pub alikeBy : Machine → List ℕ → ℕ → ℕ → ℕ → Bool
 alikeBy M kinds zero p q = Bool·beq (M .accepts p) (M .accepts q)

@@ -10,36 +10,36 @@ use mathlib.Core.List.{List, [], _∷_, map}
 use native.Mathlib.Omega.{arith}
 use lib.Dec.{eqb, ltb}
 use lib.ListN.{length, getD}
 use Rattle.scope.specs.Limits.{byteValues, wordBytes}
 use Rattle.scope.specs.Bytes.{ascii}
 use Rattle.scope.specs.Text.Re.{Re, size}
 use Rattle.scope.specs.Positions.Bits.{null, first, last, follow}
 use Rattle.scope.specs.Text.Tree.{lone, range, dot, letter, class, Tree, nothing, empty, position, group, starred, beside, either, expr, falling}
 use Rattle.scope.specs.Text.Grammar.{literal, escapable, classLiteral, hex}
 use Rattle.scope.specs.Text.Judge.{SyntaxAt, Beyond}
 use Rattle.scope.specs.Answers.{SAME, SEPARATED}
 use Rattle.scope.specs.Machines.Machine.{Machine, Equal, Closed}
 use Rattle.scope.specs.Machines.Room.{machine}
 use Rattle.scope.specs.Packing.PackedForm.{formLength}
 use Rattle.scope.specs.Machines.Rounds.{aside, Together, Rounds}
 use Rattle.scope.specs.Machines.Separate.{Separation}
 use Rattle.scope.specs.Operations.Buffers.{Written, Scratch, Cleared}
 use Rattle.scope.specs.Operations.Compare.{CompareLent, Compares, same, separated}
 use Rattle.scope.specs.Lines.{printed}
-use Rattle.scope.specs.Samples.{Sample, statesIn, classesIn, classIn, sampleRoom, positions, HasSets, Row, Says, Each, rows}
+use Rattle.sample_rows.specs.Samples.{Sample, statesIn, classesIn, classIn, sampleRoom, positions, HasSets, Row, Says, Each, rows}
 use Rattle.scope.specs.Tests.{Tests}
 use Rattle.scope.proofs.Counting.Tests.{all, all-is, any, any-is, and, or, itself, same-bool, equals, below, pair}
 use Rattle.scope.proofs.Operations.Buffers.{written-none}
 use Rattle.scope.proofs.Packing.PackedForm.{form-bits}
-use Rattle.scope.proofs.Sampled.ReadsBy.{isPattern, reads-by}
+use Rattle.sample_rows.proofs.ReadsBy.{isPattern, reads-by}
 use Rattle.scope.proofs.Text.Places.{Verdict, legal, syntax, verdict, VerdictSays, judges}
 use Rattle.scope.proofs.Machines.SameMoves.{agree-aside, agree-rounds, agree-equal, agree-separation}
 use Rattle.scope.proofs.Machines.Aside.{aside-closed}
 use Rattle.scope.proofs.Machines.Separate.{equal-by, spelled-separation}
-use Rattle.scope.proofs.Sampled.Table.{tableOf, Small, room-length, room-states, room-classes, room-sound, room-agrees, table-closed}
-use Rattle.scope.proofs.Sampled.Shown.{Help, isCompiled, compiled-by, compiled-small}
-use Rattle.scope.proofs.Sampled.Lost.{isMatched, matched-by}
-use Rattle.scope.proofs.Sampled.Apart.{alikeBy, isRounds, isSpelled, KindsCover, alike-by, rounds-by, spelled-by}
+use Rattle.sample_rows.proofs.Table.{tableOf, Small, room-length, room-states, room-classes, room-sound, room-agrees, table-closed}
+use Rattle.sample_rows.proofs.Shown.{Help, isCompiled, compiled-by, compiled-small}
+use Rattle.sample_rows.proofs.Lost.{isMatched, matched-by}
+use Rattle.sample_rows.proofs.Apart.{alikeBy, isRounds, isSpelled, KindsCover, alike-by, rounds-by, spelled-by}
 
 -- ---- sets of positions
 

@@ -1,0 +1,2 @@
+-- Number and values tell an answer
+pub mod Told

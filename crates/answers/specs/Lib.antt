@@ -1,0 +1,2 @@
+-- The numbers and values of each enum
+pub mod Numbers

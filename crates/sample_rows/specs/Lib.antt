@@ -1,0 +1,2 @@
+-- The sample patterns, strings and lines of document 01, as rows
+pub mod Samples
