@@ -4,6 +4,7 @@
 --   between-is, between-split, between-none, between-one: a range: what it decides; two parts of it; none; one byte
 --   has-range: the number whose bits are those of a range
 --   mark-range: the bits of a range that lie in one byte were stored
+--   marked-both: two sets, one after the other
 --   marked-as: the same bytes under another name
 use Prim.Native.Nat.{ℕ, zero, suc, _+_, _-_, _*_, _/_, _%_, _^_, _<_, _≤_}
 use mathlib.Core.Path.{_≡_, refl, sym, ap, ap₂, _∙_}
@@ -139,6 +140,12 @@ mark-range k b c v m h l hb g ev = record {
         rw e (ap (λ (x : ℕ). has x (n % 8)) (getD-set-same m (k * byteSet + b / 8) _ 0 (omega arith)) ∙ has-or (getD m (k * byteSet + b / 8) 0) v (n % 8))
         ∙ ap₂ (λ (x : ℕ) (y : Bool). has (getD m x 0) (n % 8) || y) (sym e) (ev (n % 8) ∙ meets q k b c n hb hn g e)
     at q n hn (no ne) = ap (λ (x : ℕ). has x (n % 8)) (getD-set-other m (k * byteSet + b / 8) (q * byteSet + n / 8) _ 0 ne) ∙ sym (or-false _) ∙ ap (λ (y : Bool). has (getD m (q * byteSet + n / 8) 0) (n % 8) || y) (sym (misses q k b c n g ne))
+
+-- ---- one after the other
+
+-- the bytes of two sets
+pub marked-both : {k : ℕ} {s t u : ByteSet} {a b c : List ℕ} → Marked k s a b → Marked k t b c → ((n : ℕ) → n < byteValues → u n ≡ (s n || t n)) → Marked k u a c
+marked-both {k} {t = t} {u = u} {a = a} x y e = left-none (left-more {r′ = λ n. false} (left-more (left-all k u a) x e) y (λ n h. sym (or-false (t n)))) (λ n h. refl)
 
 -- ---- another name
 

@@ -1,38 +1,41 @@
 -- The atoms of one position: the first byte tells the dot, a class, an escape and a literal apart. One reading is every reading (`single-one`).
---   any-byte: the dot's bytes
+--   dot-ranges: the dot's bytes are those before the line end and those after it
 --   single-dot, single-class, single-byte, single-literal: each was read
 --   single-items, single-escape, literal-byte: what can be read of it
 use Prim.Native.Nat.{ℕ, _+_, _<_}
 use Prim.Native.Char.{code}
 use mathlib.Core.Path.{_≡_, refl, sym, _∙_}
-use mathlib.Core.Bool.{true}
+use mathlib.Core.Bool.{true, _||_, Bool·beq}
 use mathlib.Core.List.{List}
 use native.Mathlib.Omega.{arith}
-use borrow.Author.Tests.{le-leb, lt-ltb}
 use Rattle.scope.specs.Bytes.{byte, between}
 use Rattle.scope.specs.Text.Grammar.{literal, Escape, Single, a-dot, a-literal, an-escape, a-class}
 use Rattle.scope.specs.Limits.{byteValues}
-use Rattle.scope.specs.Text.Tree.{Leaf, anyByte, itemsSet, setOf}
+use Rattle.scope.specs.Text.Tree.{Leaf, dotSet, itemsSet, setOf}
+use Rattle.scope.proofs.Counting.Tests.{all-is, same-bool}
 use Rattle.scope.proofs.Text.Grammar.{other, escape-head, escape-on, items-on, single-on, single-one}
 use Rattle.leaves.specs.MarkedBytes.{Marked}
 use Rattle.leaves.specs.ReadAt.{Some, WholeItems, Took}
 use Rattle.leaves.proofs.ByteByByte.{escape-in, items-in, single-in}
-use Rattle.leaves.proofs.MarkedBytes.{marked-as, between-one}
+use Rattle.leaves.proofs.MarkedBytes.{marked-both, marked-as, between-one}
 use Rattle.leaves.proofs.ClassItems.{some, took}
 
--- the dot's bytes are those from 0 to 255
-pub any-byte : (n : ℕ) → n < byteValues → between 0 255 n ≡ anyByte n
-unfolding between anyByte
-any-byte n h = rw (le-leb 0 n (omega arith), le-leb n 255 (omega arith)) (sym (lt-ltb n byteValues h))
+-- the bytes before the line end, and those after it
+dot-both : (n : ℕ) → n < byteValues → dotSet n ≡ (between 0x00 0x09 n || between 0x0B 0xFF n)
+unfolding between dotSet
+dot-both n h = same-bool _ _ .sound (all-is (λ b. Bool·beq (dotSet b) (between 0x00 0x09 b || between 0x0B 0xFF b)) byteValues .sound refl n h)
+
+pub dot-ranges : {k z a b : ℕ} {m m′ m″ : List ℕ} → Marked k (between z a) m m′ → Marked k (between b 0xFF) m′ m″ → z ≡ 0x00 → a ≡ 0x09 → b ≡ 0x0B → Marked k dotSet m m″
+dot-ranges x y d e f = marked-both x y (λ n h. rw (d, e, f) (dot-both n h))
 
 module _ {s : List ℕ} {i b : ℕ} (p : Some Single s i) (q : b ≡ byte s i) where
   -- one reading is every reading
   alone : {k r : ℕ} {x : Leaf} {m m′ : List ℕ} → Single s i r x → Marked k (setOf x) m m′ → Took Single setOf s i k m m′ r
   alone y m = took p (λ j z w. (single-on w, single-in w)) (λ j z w. let (e, d) = single-one y w in (e, rw d at m))
 
-  pub single-dot : {k : ℕ} {m m′ : List ℕ} → b ≡ code "." → Marked k (between 0 255) m m′ → Took Single setOf s i k m m′ (i + 1)
+  pub single-dot : {k : ℕ} {m m′ : List ℕ} → b ≡ code "." → Marked k dotSet m m′ → Took Single setOf s i k m m′ (i + 1)
   unfolding setOf
-  single-dot e m = alone (a-dot (sym q ∙ e)) (marked-as m any-byte)
+  single-dot e m = alone (a-dot (sym q ∙ e)) (marked-as m (λ n h. refl))
 
   class-of : {j : ℕ} {x : Leaf} → Single s i j x → b ≡ code "[" → Some WholeItems s (i + 1)
   unfolding literal

@@ -6,8 +6,9 @@ ghost use Prim.Native.Nat.{_<_, _≤_};
 ghost use lib.ListN.{length};
 ghost use Rattle.scope.specs.Text.Grammar.{Single};
 ghost use Rattle.scope.specs.Limits.{positionLimit};
-ghost use Rattle.scope.specs.Text.Tree.{itemSet, itemsSet, setOf};
+ghost use Rattle.scope.specs.Text.Tree.{dotSet, itemSet, itemsSet, setOf};
 ghost use Rattle.sets.specs.Layout.{byteSets};
+ghost use Rattle.leaves.specs.MarkedBytes.{Marked};
 ghost use Rattle.leaves.specs.ReadAt.{Some, WholeItem, WholeItems, Took};
 use marks::mark;
 use text::BACKSLASH;
@@ -18,6 +19,15 @@ use text::DOT;
 use text::byte_at;
 use text::class_byte;
 use text::escape;
+
+// Marks the bytes of the dot: all but the line end, 0x0A.
+fn mark_dot(bytes: &mut [u8], k: usize)
+    requires { ⌜ (k < positionLimit) × (byteSets ≤ length (now bytes)) ⌝ }
+    ensures { λ _. ⌜ Marked k dotSet (now (bytes .entry)) (now (bytes .exit)) ⌝ }
+{
+    mark(bytes, k, 0x00, 0x09);
+    mark(bytes, k, 0x0B, 0xFF);
+}
 
 // Marks the bytes of one item of a class; the place after it.
 fn item(text: &[u8], at: usize, k: usize, bytes: &mut [u8]) -> usize
@@ -58,7 +68,7 @@ pub fn single(text: &[u8], at: usize, k: usize, bytes: &mut [u8]) -> usize
 {
     let b = byte_at(text, at);
     if b == DOT {
-        mark(bytes, k, 0, 255);
+        mark_dot(bytes, k);
         return at + 1;
     }
     if b == CLASS_OPEN {

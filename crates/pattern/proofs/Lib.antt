@@ -7,3 +7,5 @@ pub mod Tails
 pub mod Groups
 pub mod Turns
 pub mod Whole
+-- The line end in a word
+pub mod LineEnd

@@ -1,1 +1,3 @@
 pub mod PatternSets
+-- Where a text names a byte
+pub mod Named

@@ -303,15 +303,15 @@ forNoWord = record { tree = nothing; kinds = 0 ∷ []; sets = 1 ∷ 0 ∷ []; st
 abbrev forEmptyWord : Help
 forEmptyWord = record { tree = empty; kinds = 0 ∷ []; sets = 1 ∷ 0 ∷ []; states = 0 ∷ 1 ∷ []; ways = [] ∷ others ∷ []; words = [] ∷ []; lost = 1 ∷ []; homes = [] }
 
-abbrev forAnything : Help
-forAnything = record {
+abbrev forRemark : Help
+forRemark = record {
   tree = starred (position 0 dot);
-  kinds = 0 ∷ [];
-  sets = 1 ∷ positions (1 ∷ []) ∷ [];
-  states = 0 ∷ 0 ∷ [];
-  ways = [] ∷ [];
-  words = [];
-  lost = [];
+  kinds = 0 ∷ ascii "\n";
+  sets = 1 ∷ positions (1 ∷ []) ∷ 0 ∷ [];
+  states = 0 ∷ 0 ∷ 1 ∷ [];
+  ways = [] ∷ ascii "\n" ∷ [];
+  words = [] ∷ [];
+  lost = 1 ∷ [];
   homes = [];
 }
 
@@ -367,7 +367,7 @@ abbrev forFalls : Help
 forFalls = forMixed (position 0 (class (range 98 97 2 ∷ [])))
 
 abbrev both : Help → Help → Hint
-both left right = record { left = left; right = right; kinds = 0 ∷ ascii "ab" }
+both left right = record { left = left; right = right; kinds = 0 ∷ ascii "\nab" }
 
 abbrev alone : Help → Hint
 alone help = both help help
@@ -386,7 +386,8 @@ hints =
     ∷ alone forGlushkov
     ∷ alone forGlushkov
     ∷ alone forGlushkov
-    ∷ both forAnything forNoWord
+    ∷ both forRemark forNoWord
+    ∷ alone forRemark
     ∷ both (forOnly "a") (forOnly "b")
     ∷ both stars letters
     ∷ alone forNoWord

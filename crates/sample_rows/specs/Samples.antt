@@ -158,8 +158,9 @@ noWord = record { text = ascii "\\0"; classes = []; rows = (0 ∷ []) ∷ []; ma
 abbrev pub emptyWord : Sample
 emptyWord = record { text = ascii "\\e"; classes = []; rows = (1 ∷ []) ∷ (1 ∷ []) ∷ []; marks = 1 ∷ 0 ∷ [] }
 
-abbrev pub anything : Sample
-anything = record { text = ascii ".*"; classes = []; rows = (0 ∷ []) ∷ []; marks = 1 ∷ [] }
+-- `.*`: n 2, k 2; the line end leads out of it
+abbrev pub remark : Sample
+remark = record { text = ascii ".*"; classes = ascii "\n" ∷ []; rows = (0 ∷ 1 ∷ []) ∷ (1 ∷ 1 ∷ []) ∷ []; marks = 1 ∷ 0 ∷ [] }
 
 -- one byte, and no other
 abbrev pub only : String → Sample
@@ -210,7 +211,9 @@ rows =
     ∷ matched glushkov (ascii "a") UNFINISHED 0
     ∷ matched glushkov (ascii "ac") DEAD 2
     -- P `.*` against `\0`: Separated, length 0, rounds 0
-    ∷ compared anything noWord SEPARATED [] 0
+    ∷ compared remark noWord SEPARATED [] 0
+    -- 02, C-16: `.*` on a remark of two lines Dead at the line end
+    ∷ matched remark (ascii "a\nb") DEAD 2
     -- P `a` against `b`: `a`, rounds 1
     ∷ compared (only "a") (only "b") SEPARATED (ascii "a") 1
     -- P `(a*|b*)*` against `(a|b)*`: Same, rounds 0

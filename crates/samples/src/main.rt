@@ -3,7 +3,7 @@
 //   compile PATTERN: states N classes K, or refused NUMBER at PLACE
 //   table ROOM: the rows of the table, between /, and the states that accept, - if there is none; nothing if the room is not sound
 //   minimise ROOM: states N classes K
-//   match ROOM TEXT: accepted, unfinished, or dead PLACE
+//   match ROOM TEXT: accepted, unfinished, or dead PLACE; the text `{lines}` is a, a line end and b
 //   compare ROOM ROOM: same rounds R, or separated WORD rounds R, the word in hex, - if it is empty
 //   pack ROOM: bytes N
 // A room is that of a pattern, or has a name in braces, which begin no pattern (`rooms`). One that is not taken is refused NUMBER.
@@ -45,7 +45,7 @@ fn minimises(from: &[u8]) {
 }
 
 // Matches a text.
-fn matches(room: &[u8], text: &[u8]) {
+fn matches_text(room: &[u8], text: &[u8]) {
     let answer = matching::match_text(room, text);
     match answer {
         Matched::Accepted => show::text(b"accepted"),
@@ -53,6 +53,15 @@ fn matches(room: &[u8], text: &[u8]) {
         Matched::Unfinished => show::text(b"unfinished"),
         _ => show::refused(answer.number()),
     }
+}
+
+// Matches a text as it is given, or the one that has a name.
+fn matches(room: &[u8], given: &[u8]) {
+    if rooms::are_same(given, b"{lines}") {
+        matches_text(room, b"a\nb");
+        return;
+    }
+    matches_text(room, given);
 }
 
 // Compares a room with that of a name or a pattern.

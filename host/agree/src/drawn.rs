@@ -176,7 +176,7 @@ fn matching(draw: &mut Draw) -> Case {
     let text = match draw.below(8) {
         0 => {
             let length = draw.below(30);
-            draw.text(length, b"abc")
+            draw.text(length, b"\nabc")
         }
         1 => {
             let length = draw.below(3000);

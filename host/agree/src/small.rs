@@ -14,9 +14,9 @@ pub fn compiling(most: usize) -> impl Iterator<Item = Case> {
     patterns(most).map(|pattern| Case::new(Operation::Compile, &[&pattern]))
 }
 
-/// All texts of up to so many bytes of those that make hex escapes and ranges, to be compiled.
+/// All texts of up to so many bytes of those that make hex escapes, of the line end among others, ranges and dots, to be compiled.
 pub fn hex(most: usize) -> impl Iterator<Item = Case> {
-    strings(b"\\x4aG[]-", most).map(|pattern| Case::new(Operation::Compile, &[&pattern]))
+    strings(b"\\x0aG[]-.", most).map(|pattern| Case::new(Operation::Compile, &[&pattern]))
 }
 
 /// All patterns of up to so many pattern bytes that are taken.
@@ -103,7 +103,7 @@ pub fn forms(count: usize, rooms: &[u8], keys: &[u8], most: usize) -> Vec<Vec<u8
 pub fn changed(form: &[u8]) -> impl Iterator<Item = Vec<u8>> + '_ {
     let values = |at: usize| match at {
         0..=17 => (0..=255).collect(),
-        _ => vec![0, BACK, ENTER, b'a'],
+        _ => vec![0, b'\n', BACK, ENTER, b'a'],
     };
     let changes =
         (0..form.len()).flat_map(move |at| values(at).into_iter().map(move |to| (at, to)));

@@ -43,7 +43,7 @@ pub fn answer(question: &Question, run: impl Fn(&str, &[&[u8]]) -> Outcome) -> S
     let (answer, output) = match operation {
         "compile" => run(operation, &[given.as_bytes()]),
         "table" => return table(&room(given)),
-        "match" => run(operation, &[&room(given), other.as_bytes()]),
+        "match" => run(operation, &[&room(given), text(other).as_bytes()]),
         "compare" => run(operation, &[&room(given), &room(other)]),
         _ => run(operation, &[&room(given)]),
     };
@@ -97,6 +97,14 @@ pub fn table(room: &[u8]) -> String {
     let states = (0..machine.states).filter(|&state| machine.marks[state]);
     let accepting: Vec<usize> = states.collect();
     format!("{} {}", rows.join("/"), listed(&accepting))
+}
+
+/// A text as it is given, or the one that has a name in the program `samples`.
+pub fn text(given: &str) -> &str {
+    match given {
+        "{lines}" => "a\nb",
+        _ => given,
+    }
 }
 
 /// The room of a pattern, as it is compiled, or one that has a name in the program `samples`.

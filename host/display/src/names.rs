@@ -7,6 +7,7 @@ pub fn byte(key: u8) -> String {
     match key {
         0x08 | 0x7F => "Backspace".to_string(),
         0x09 => "Tab".to_string(),
+        0x0A => "Line end".to_string(),
         0x0D => "Enter".to_string(),
         0x1B => "Escape".to_string(),
         0x20 => "Space".to_string(),

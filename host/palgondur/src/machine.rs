@@ -114,7 +114,7 @@ impl Machine {
     /// (room[258], room[259]) = (1, 1);
     /// (room[386], room[387]) = (1, 0);
     /// let machine = Machine::from_room(room)?;
-    /// assert_eq!(machine.minimised(), Machine::compile(".*")?);
+    /// assert_eq!(machine.minimised(), Machine::compile("[\\x00-\\xFF]*")?);
     /// # Ok::<(), palgondur::Refusal>(())
     /// ```
     pub fn minimised(&self) -> Machine {

@@ -19,9 +19,9 @@ impl ByteSet {
         ByteSet([0; 4])
     }
 
-    /// The set of all 256 bytes.
-    pub fn full() -> ByteSet {
-        ByteSet([u64::MAX; 4])
+    /// The set of the dot: all bytes but the line end.
+    pub fn dot() -> ByteSet {
+        ByteSet([!(1 << b'\n'), u64::MAX, u64::MAX, u64::MAX])
     }
 
     /// The set of one byte.
@@ -184,7 +184,7 @@ pub fn tokens(text: &[u8]) -> Option<Tokens> {
             [b')', ..] => (Token::Close, 1),
             [b'|', ..] => (Token::Bar, 1),
             [b'*', ..] => (Token::Star, 1),
-            [b'.', ..] => (Token::Position(ByteSet::full()), 1),
+            [b'.', ..] => (Token::Position(ByteSet::dot()), 1),
             [b'\\', b'e', ..] => (Token::Empty, 2),
             [b'\\', b'0', ..] => (Token::Nothing, 2),
             [b'\\', ..] => {

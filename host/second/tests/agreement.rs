@@ -34,7 +34,7 @@ fn derivatives_and_rooms_agree() {
     for _ in 0..400 {
         let atoms = draw.between(1, 9);
         let pattern = draw.legal(atoms, Alphabet::Small);
-        agree(&pattern, &mut strings(b"abc", 5));
+        agree(&pattern, &mut strings(b"\nabc", 5));
     }
     for _ in 0..200 {
         let atoms = draw.between(1, 9);
@@ -52,7 +52,7 @@ fn derivatives_and_rooms_agree() {
 #[test]
 fn derivatives_and_rooms_agree_on_all_short_patterns() {
     for pattern in patterns(4) {
-        agree(&pattern, &mut strings(b"abc", 3));
+        agree(&pattern, &mut strings(b"\0\nabc", 3));
     }
 }
 
@@ -118,7 +118,7 @@ fn both_ways_to_the_smallest_agree() {
 fn the_machine_between_may_be_too_large() {
     let pattern = [b".".repeat(20), b"a.*".to_vec()].concat();
     let machine = second::machine(&pattern).expect("a taken pattern");
-    assert_eq!((machine.states, machine.classes), (23, 2));
+    assert_eq!((machine.states, machine.classes), (23, 3));
     assert!(twice_reversed(&machine).is_none());
     assert!(canonical(&machine.room()));
 }
@@ -199,8 +199,8 @@ fn words_are_first_among_the_shortest() {
             draw.legal(other, Alphabet::Small),
         );
         if let (Some((mut one, left)), Some((mut other, right))) = (both(&one), both(&other)) {
-            // The byte 0 stands for all that are not a, b or c.
-            let first = strings(b"\0abc", 4).find(|text| one.has(text) != other.has(text));
+            // The byte 0 stands for all that are not the line end, a, b or c.
+            let first = strings(b"\0\nabc", 4).find(|text| one.has(text) != other.has(text));
             match separation(&left, &right) {
                 Some(word) if word.len() <= 4 => assert_eq!(first, Some(word)),
                 _ => assert_eq!(first, None),

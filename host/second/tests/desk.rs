@@ -49,7 +49,7 @@ fn reached(count: usize, rooms: &[u8], keys: &[u8], most: usize) -> HashSet<Vec<
 
 #[test]
 fn forms_are_taken_exactly_if_keys_lead_to_them() {
-    let bytes = [b'a', b'b', BACK, ENTER];
+    let bytes = [b'\n', b'a', b'b', BACK, ENTER];
     let texts: Vec<Vec<u8>> = strings(&bytes, 2).collect();
     let desks: [&[&[u8]]; 7] = [
         &[b"a*"],

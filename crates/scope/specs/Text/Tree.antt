@@ -2,13 +2,13 @@
 --   Item: an item of a class; a range has the place of its dash
 --   Leaf: what stands at one position
 --   Tree: a pattern; a position has the place of its first byte, a group the place of its `(`
---   anyByte, itemSet, setOf: the bytes that a dot, an item and a leaf stand for
+--   dotSet, itemSet, setOf: the bytes that a dot, an item and a leaf stand for
 --   expr t: the expression of a tree
 --   falling t: the dashes of the ranges with low above high, left to right
 --   opened d t: the `(` that open inside d others and no more, left to right
 --   places t: the first byte of each position, left to right
 use Prim.Native.Nat.{ℕ, zero, suc}
-use mathlib.Core.Bool.{Bool, true, false, _||_}
+use mathlib.Core.Bool.{Bool, true, false, not, _&&_, _||_}
 use mathlib.Core.List.{List, [], _∷_, _++_}
 use lib.Dec.{eqb, ltb}
 use Rattle.scope.specs.Limits.{byteValues}
@@ -38,9 +38,9 @@ pub data Tree : Type 0 where
 
 -- ---- meaning
 
--- "`.` is any one of the 256 byte values."
-unfoldable pub anyByte : ByteSet
-anyByte b = ltb b byteValues
+-- 02, C-16: the dot "shall be every byte value except 0x0A"
+unfoldable pub dotSet : ByteSet
+dotSet b = ltb b byteValues && not (eqb b 0x0A)
 
 unfoldable pub itemSet : Item → ByteSet
 unfolding between
@@ -53,8 +53,8 @@ itemsSet [] b = false
 itemsSet (x ∷ l) b = itemSet x b || itemsSet l b
 
 unfoldable pub setOf : Leaf → ByteSet
-unfolding anyByte itemsSet
-setOf dot b = anyByte b
+unfolding dotSet itemsSet
+setOf dot b = dotSet b
 setOf (letter c) b = eqb b c
 setOf (class l) b = itemsSet l b
 

@@ -78,7 +78,7 @@ pub fn case(seed: u64, number: u64) -> Case {
     form[..front].copy_from_slice(&shown[..front]);
     let key = match draw.below(4) {
         0 => draw.pick(&[BACK, ENTER]),
-        1 => draw.pick(b"ab0"),
+        1 => draw.pick(b"\nab0"),
         _ => draw.key(&desk, Typing::Along),
     };
     Case::pressing(&rooms, &form, key)

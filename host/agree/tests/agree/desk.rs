@@ -42,13 +42,13 @@ fn form(count: usize, rooms: &[u8], keys: &[u8]) -> Vec<u8> {
     desk.form()
 }
 
-/// The patterns of small desks: among them fields that are empty, that have no word, and that have 0x08 or 0x0D in their words.
+/// The patterns of small desks: among them fields that are empty, that have no word, and that have 0x08, 0x0A or 0x0D in their words.
 const DESKS_OF: [&[&[u8]]; 6] = [
     &[b"(ab*|a)b"],
     &[b"a*", b"b|ab"],
     &[b"\\e", b"(a|b)*", b"\\0"],
     &[b"\\x08*", b"a(\\x0d|b)"],
-    &[b".", b".*"],
+    &[b".", b".*|\\x0a"],
     &[b"aa*", b"a|b", b"\\e|b"],
 ];
 
@@ -64,18 +64,18 @@ fn pressed(most: usize, keys: &[u8]) -> Vec<Case> {
     cases
 }
 
-/// Keys that go on, that no field of some machines goes on with, that take back and that close.
-const KEYS: [u8; 5] = [b'a', b'b', b'z', BACK, ENTER];
+/// Keys that go on, that no field of some machines goes on with, the line end among them, that take back and that close.
+const KEYS: [u8; 6] = [b'\n', b'a', b'b', b'z', BACK, ENTER];
 
 #[test]
 fn all_short_sequences_of_keys() {
     all(
-        "all forms of up to 6 keys of five and each of the five after",
+        "all forms of up to 6 keys of six and each of the six after",
         pressed(6, &KEYS).into_iter(),
     );
     let every: Vec<u8> = (0..=255).collect();
     all(
-        "all forms of up to 3 keys of five and every key after",
+        "all forms of up to 3 keys of six and every key after",
         pressed(3, &every).into_iter(),
     );
 }

@@ -34,7 +34,7 @@ fn all_short_texts_compiled() {
         small::compiling(4),
     );
     all(
-        "all texts of up to 4 bytes of hex escapes and ranges",
+        "all texts of up to 4 bytes of hex escapes, ranges and dots",
         small::hex(4),
     );
 }
@@ -45,7 +45,7 @@ fn all_short_strings_matched() {
     for pattern in small::taken(4) {
         let room = room(&pattern);
         let mut language = Language::new(&judge(&pattern).expect("a taken pattern"));
-        for text in strings(b"abc", 3) {
+        for text in strings(b"\0\nabc", 3) {
             let answer = palgondur::raw::match_text(&room, &text);
             assert_eq!(
                 answer,
@@ -58,7 +58,7 @@ fn all_short_strings_matched() {
             count += 1;
         }
     }
-    say(format!("agree: {count} cases, all texts of up to 3 letters by all taken patterns of up to 4 bytes, against derivatives"));
+    say(format!("agree: {count} cases, all texts of up to 3 of five bytes by all taken patterns of up to 4 bytes, against derivatives"));
 }
 
 #[test]

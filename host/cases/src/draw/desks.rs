@@ -86,7 +86,7 @@ impl Draw {
             0 | 1 => BACK,
             2 | 3 => ENTER,
             4 => self.byte(),
-            _ => self.pick(b"abc0"),
+            _ => self.pick(b"\nabc0"),
         }
     }
 
@@ -148,7 +148,7 @@ impl Draw {
             EntryDamage::Text if length > 0 => {
                 let at = text + self.below(length);
                 form[at] = if self.once_in(2) {
-                    self.pick(b"abc0")
+                    self.pick(b"\nabc0")
                 } else {
                     form[at].wrapping_add(change)
                 };

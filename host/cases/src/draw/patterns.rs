@@ -7,7 +7,7 @@ use second::text::TWELVE;
 /// Which bytes patterns are made of.
 #[derive(Clone, Copy, PartialEq, Eq, Debug)]
 pub enum Alphabet {
-    /// The letters a, b and c, and few kinds of atoms.
+    /// The letters a, b and c, the line end, and few kinds of atoms.
     Small,
     /// Every byte value, by every kind of atom.
     Full,
@@ -95,7 +95,9 @@ impl Draw {
             let word: &[u8] = if self.once_in(2) { b"\\e" } else { b"\\0" };
             out.extend_from_slice(word);
         } else if alphabet == Alphabet::Small {
-            let kinds: [&[u8]; 8] = [b"a", b"a", b"b", b"b", b"c", b".", b"[ab]", b"[a-c]"];
+            let kinds: [&[u8]; 9] = [
+                b"a", b"a", b"b", b"b", b"c", b".", b"[ab]", b"[a-c]", b"\\x0A",
+            ];
             let kind = self.pick(&kinds);
             out.extend_from_slice(kind);
         } else {

@@ -118,7 +118,7 @@ fn a_form_is_shown_as_its_file_says() {
     assert_eq!(display.rows()[0], "Remarks");
     assert_eq!(display.rows()[5], "  digits: any number of hex digits");
     display.key(b"\r");
-    assert_eq!(display.rows()[5], "  remark: anything");
+    assert_eq!(display.rows()[5], "  remark: one line of text");
     // Bytes that are not printed as they are.
     display.key(b"a\\ \x01~");
     assert_eq!(display.rows()[3], "  open    remark  a\\\\ \\x01~");

@@ -79,6 +79,26 @@ fn a_paste_is_judged_and_never_repaired() {
 }
 
 #[test]
+fn a_remark_stays_one_line() {
+    let mut display = Display::start(&[&form("remark")], USUAL);
+    display.key(b"\r");
+    let rows: [(Vec<u8>, &str, String); 3] = [
+        (paste(b"one\ntwo"), "one", refused("Line end", 4, 7, DEAD)),
+        (b"\n".to_vec(), "one", format!("Line end refused: {DEAD}")),
+        (
+            paste(b" two"),
+            "one two",
+            "pasted, 4 of 4 bytes taken".into(),
+        ),
+    ];
+    for (bytes, text, message) in rows {
+        display.key(&bytes);
+        let wanted = (text.to_string(), message);
+        assert_eq!(shown(&display, "remark"), wanted, "{bytes:02X?}");
+    }
+}
+
+#[test]
 fn a_paste_may_come_in_pieces_and_be_long() {
     let mut display = Display::start(&[&form("hex")], USUAL);
     display.key(b"01\x1B[20");

@@ -163,15 +163,29 @@ fn plays() -> Vec<(Play, Option<Odd>)> {
                 (&all(), 13),
             ],
         ),
-        // All bytes are taken but the two keys.
+        // All bytes are taken but the two keys, and of a dot but the line end.
         play(
-            &[".*"],
+            &["(.|\\x0A)*"],
             &[
                 (&others(b"")[..127], 0),
                 (&[0x08; 127], 0),
                 (&others(b"")[127..], 0),
                 (b"\xFF", 0),
                 (b"\0", 12),
+                (b"\r", 0),
+            ],
+        ),
+        play(
+            &[".*"],
+            &[
+                (&others(b"\n")[..126], 0),
+                (b"\n", 10),
+                (&[0x08; 126], 0),
+                (b"\n", 10),
+                (&others(b"\n")[126..], 0),
+                (b"\n", 10),
+                (b"\xFF", 0),
+                (b"\n", 12),
                 (b"\r", 0),
             ],
         ),
@@ -304,7 +318,7 @@ fn forms_from_outside_are_judged() {
         ((&["a*", "a*"], b"a\ra\r", vec![Form(19, 1)]), [9; 4]),
         ((&["a*", "a*"], b"a\ra\r", vec![Form(274, 1)]), [9; 4]),
         ((&["a*", "a*"], b"a\ra\r", vec![Form(last, 1)]), [9; 4]),
-        // Lengths. What is longer by zeros is a text too where all bytes are taken.
+        // Lengths. What is longer by zeros is a text too where the byte 0 is taken.
         ((&["a*", "a*"], b"a", vec![Form(2, 0)]), [9; 4]),
         ((&["a*", "a*"], b"a", vec![Form(2, 2)]), [9; 4]),
         ((&[".*"], b"a", vec![Form(2, 128)]), [0, 0, 12, 12]),
@@ -317,6 +331,9 @@ fn forms_from_outside_are_judged() {
         ((&[".*", "a*"], b"a.b", vec![Form(19, 0x0D)]), [9; 4]),
         ((&[".*", "a*"], b"\x08\ra", vec![]), [9; 4]),
         ((&[".*", "a*"], b"a.\ra\r", vec![Form(19, 0x0D)]), [9; 4]),
+        // Nor is the line end in one, where the field has only dots.
+        ((&[".*", "a*"], b"a.b", vec![Form(19, 0x0A)]), [9; 4]),
+        ((&["(.|\\x0A)*"], b"a.b", vec![Form(19, 0x0A)]), [0; 4]),
         // A machine that is not sound, of whichever field; behind the last field nothing is read.
         ((&["a*", "a*"], b"a", vec![Rooms(0, 0)]), [9; 4]),
         ((&["a*", "a*"], b"a", vec![Rooms(ROOM, 0)]), [9; 4]),
