@@ -1,4 +1,4 @@
--- The numbers and values of answers. 01: "Where an answer is an enum, a definition gives this paper's number and values for each of its cases."
+-- Answers as numbers and values. 01: "Where an answer is an enum, a definition gives this paper's number and values for each of its cases."
 --   compiledNumber, compiledPlace: of `Compiled`; and so for the other five
 -- A value that an answer does not have is 0.
 use Prim.Native.Nat.{ℕ}

@@ -1,8 +1,9 @@
 -- The line end in a word: the dot does not hold it and no literal is it, so that a class or an escape names it wherever a word has it.
 --   held-named: a position that holds the line end stands where the text names it
---   line-end-named: so each line end of a word is taken where the text names it
---   accepted-named: and so is each that a compiled room accepts
-use Prim.Native.Nat.{ℕ, _+_, _-_}
+--   line-end-leads: so from any set of positions a line end leads only to such positions
+--   line-end-named: and each line end of a word is taken at one
+--   accepted-named: so is each of a string that a compiled room accepts
+use Prim.Native.Nat.{ℕ, _+_, _-_, _≤_}
 use mathlib.Core.Path.{_≡_, refl, ap, _∙_}
 use mathlib.Core.Bool.{true, false≢true}
 use mathlib.Core.Logic.{_⊎_, inl, inr}
@@ -12,9 +13,10 @@ use lib.ListN.{length, getD, List·getD-append}
 use lib.Seq.{getD-append-add}
 use Rattle.scope.specs.Answers.{DONE}
 use Rattle.scope.specs.Bytes.{Bytes, byte}
-use Rattle.scope.specs.Machines.Machine.{Accepts}
+use Rattle.scope.specs.Machines.Machine.{walk, Accepts}
 use Rattle.scope.specs.Machines.Room.{machine}
 use Rattle.scope.specs.Operations.Compile.{Compiles}
+use Rattle.scope.specs.Positions.Bits.{has, move}
 use Rattle.scope.specs.Positions.Sets.{At, Path, to}
 use Rattle.scope.specs.Text.Grammar.{literal, Single, a-dot, a-literal, an-escape, a-class, Level, Reads, single, no-byte, no-word, in-group, one-atom, one-star, one-factor, next-factor, one-branch, next-branch}
 use Rattle.scope.specs.Text.Judge.{Pattern}
@@ -23,6 +25,7 @@ use Rattle.scope.specs.Text.Tree.{Leaf, Tree, dotSet, setOf, expr, places}
 use Rattle.scope.proofs.Counting.Tests.{equals}
 use Rattle.scope.proofs.Operations.Compile.{compiled-exact}
 use Rattle.scope.proofs.Positions.Glushkov.{PositionOf, at-in, glushkov}
+use Rattle.scope.proofs.Positions.Moves.{move-is}
 use Rattle.scope.proofs.Text.Grammar.{other}
 use Rattle.pattern.specs.Named.{Names, in-class, as-escape, TakenAt}
 use Rattle.pattern.proofs.Whole.{places-size}
@@ -71,16 +74,25 @@ module _ {s : List ℕ} where
   held-named (one-branch r) k p a = held-named r k p a
   held-named (next-branch {t = t} {u = u} r h x) k p a = part-named t u k p (λ b. held-named r k p b) (λ b. held-named x (k + size (expr t)) p b) a
 
-  -- ---- words
+  -- ---- sets and words
 
-  module _ {t : Tree} (r : Pattern s t) (v : List ℕ) where
-    taken : (p : ℕ) (u : List ℕ) → Path (expr t) p (u ++ 0x0A ∷ v) → (q : ℕ) × TakenAt s t 0x0A v q
-    taken p [] (to {q = q} h a w) = (q, record { holds = a; on = w; named = held-named r 0 q a })
-    taken p (c ∷ u) (to {q = q} h a w) = taken q u w
+  module _ {t : Tree} (r : Pattern s t) where
+    pub line-end-leads : (x q : ℕ) → has (move (expr t) x 0x0A) q ≡ true → Names s 0x0A (place t 0 q)
+    line-end-leads x q h = held-named r 0 q (move-is (expr t) x 0x0A q .sound h .1)
 
-    pub line-end-named : (u : List ℕ) → Words (expr t) (u ++ 0x0A ∷ v) → (q : ℕ) × TakenAt s t 0x0A v q
-    line-end-named u w = taken 0 u (glushkov (expr t) (u ++ 0x0A ∷ v) .0 w)
+    module _ (v : List ℕ) where
+      -- where a path from p takes a line end: a set that has p leads there
+      comes : (x p : ℕ) → p ≤ size (expr t) → has x p ≡ true → (u : List ℕ) → Path (expr t) p (u ++ 0x0A ∷ v)
+          → (q : ℕ) × (has (walk (move (expr t)) x (u ++ 0x0A ∷ [])) q ≡ true) × At (expr t) 0 q 0x0A × Path (expr t) q v
+      comes x p h y [] (to {q = q} g a w) = (q, move-is (expr t) x 0x0A q .full ((p, h, y, g), a), a, w)
+      comes x p h y (c ∷ u) (to {q = q} g a w) =
+          comes (move (expr t) x c) q (omega (arith, at-in (expr t) 0 q c a)) (move-is (expr t) x c q .full ((p, h, y, g), a)) u w
 
-    pub accepted-named : {room room′ bytes bytes′ words words′ : List ℕ} → Compiles s room room′ bytes bytes′ words words′ DONE 0 → (u : List ℕ) → Bytes (u ++ 0x0A ∷ v)
-        → Accepts (machine room′) (u ++ 0x0A ∷ v) → (q : ℕ) × TakenAt s t 0x0A v q
-    accepted-named x u g a = line-end-named u (compiled-exact x t r (u ++ 0x0A ∷ v) g .0 a)
+      pub line-end-named : (u : List ℕ) → Words (expr t) (u ++ 0x0A ∷ v) → (q : ℕ) × TakenAt s t u 0x0A v q
+      line-end-named u w =
+          let (q, y, a, z) = comes 1 0 (omega arith) refl u (glushkov (expr t) (u ++ 0x0A ∷ v) .0 w) in
+          (q, record { reached = y; onward = z; named = held-named r 0 q a })
+
+      pub accepted-named : {room room′ bytes bytes′ words words′ : List ℕ} → Compiles s room room′ bytes bytes′ words words′ DONE 0 → (u : List ℕ) → Bytes (u ++ 0x0A ∷ v)
+          → Accepts (machine room′) (u ++ 0x0A ∷ v) → (q : ℕ) × TakenAt s t u 0x0A v q
+      accepted-named x u g a = line-end-named u (compiled-exact x t r (u ++ 0x0A ∷ v) g .0 a)

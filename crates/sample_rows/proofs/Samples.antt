@@ -403,7 +403,7 @@ hints =
     ∷ alone forNoWord
     ∷ []
 
--- every row of 01 holds
+-- every row holds
 pub samples : Each rows
 unfolding rows hints areRows
 samples = each-by rows hints refl

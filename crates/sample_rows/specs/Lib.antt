@@ -1,2 +1,2 @@
--- The sample patterns, strings and lines of document 01, as rows
+-- The sample patterns, strings and lines, as rows
 pub mod Samples

@@ -1,10 +1,10 @@
--- 01, "Sample patterns and rulings": the rows marked P, the places of SYNTAX and RANGE, and the program's example; what each says of the definitions.
+-- 01, "Sample patterns and rulings": the rows marked P, the places of SYNTAX and RANGE, and the program's example; a row of 02's C-16; what each says of the definitions.
 --   Sample: a pattern with the machine that 01 gives for it
 --   sampleRoom g: the room of that machine, byte by byte
 --   Compiled g: compiling the pattern gives that room
 --   positions l: the set of the positions l, as a number
 --   Row, Says: a row, and what it says; Each l: what each row of a list says
---   rows: the rows of 01
+--   rows: the rows of both
 use Prim.Native.Nat.{ℕ, suc, _+_, _-_, _*_, _/_, _%_, _^_, _≤_, _<_}
 use Prim.Native.String.{String}
 use mathlib.Core.Path.{_≡_}

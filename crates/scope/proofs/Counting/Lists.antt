@@ -1,4 +1,4 @@
--- Lists that are read with a default.
+-- Lists that are read with a default, and lists of what a function gives.
 --   any-default: inside of a list what is read past its end does not matter
 --   zeros: a list of zeros has 0 everywhere
 --   listed-length, listed-at: the elements of a listing
