@@ -48,14 +48,19 @@ pub enum Comparison {
 }
 
 impl Machine {
-    /// The smallest machine of a pattern's strings, or the refusal from LONG to STATES.
+    /// The smallest machine of a pattern's strings, or the refusal from LONG to STATES. A dot is any byte but the line end,
+    /// which a class or `\x0A` can name.
     ///
     /// ```
-    /// use palgondur::{Machine, Refusal};
+    /// use palgondur::{Machine, Match, Refusal};
     ///
     /// let machine = Machine::compile("(ab*|a)b")?;
     /// assert_eq!((machine.states(), machine.classes()), (4, 3));
     /// assert_eq!(Machine::compile("[b-a]"), Err(Refusal::Range(2)));
+    ///
+    /// let remark = Machine::compile(".*")?;
+    /// assert_eq!(remark.matches("one line"), Match::Accepted);
+    /// assert!(matches!(remark.matches("two\nlines"), Match::Dead { place: 4, .. }));
     /// # Ok::<(), Refusal>(())
     /// ```
     pub fn compile(pattern: impl AsRef<[u8]>) -> Result<Machine, Refusal> {
