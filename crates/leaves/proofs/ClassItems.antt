@@ -66,7 +66,7 @@ module _ {s : List ℕ} where
 
     pub item-range : {z high k : ℕ} {m m′ : List ℕ} → Some WholeItem s i → ClassByte s (a + 1) z high → b ≡ code "-" → Marked k (between low high) m m′ → Took WholeItem itemSet s i k m m′ z
     unfolding itemSet
-    item-range q u e m = took q item-bounds (λ j x (r, n). let (o, l) = range-of u e r n in (o, rw l (marked-as m (λ n h. refl))))
+    item-range q u e m = took q item-bounds (λ j x (r, n). let (o, l) = range-of u e r n in (o, rw l m))
 
     pub item-lone : {k : ℕ} {m m′ : List ℕ} → Some WholeItem s i → (b ≡ code "-" → ⊥) → Marked k (between low low) m m′ → Took WholeItem itemSet s i k m m′ a
     unfolding itemSet

@@ -35,7 +35,7 @@ module _ {s : List ℕ} {i b : ℕ} (p : Some Single s i) (q : b ≡ byte s i) w
 
   pub single-dot : {k : ℕ} {m m′ : List ℕ} → b ≡ code "." → Marked k dotSet m m′ → Took Single setOf s i k m m′ (i + 1)
   unfolding setOf
-  single-dot e m = alone (a-dot (sym q ∙ e)) (marked-as m (λ n h. refl))
+  single-dot e m = alone (a-dot (sym q ∙ e)) m
 
   class-of : {j : ℕ} {x : Leaf} → Single s i j x → b ≡ code "[" → Some WholeItems s (i + 1)
   unfolding literal
@@ -52,7 +52,7 @@ module _ {s : List ℕ} {i b : ℕ} (p : Some Single s i) (q : b ≡ byte s i) w
   single-class e t =
       let w = single-items e in
       let (z, m) = t .says (w .end) (w .what) (w .reads) in
-      rw z (alone (a-class (sym q ∙ e) (w .reads .0) (w .reads .1)) (marked-as m (λ n h. refl)))
+      rw z (alone (a-class (sym q ∙ e) (w .reads .0) (w .reads .1)) m)
 
   byte-of : {j : ℕ} {x : Leaf} → Single s i j x → b ≡ code "\\" → Some Escape s i
   unfolding literal

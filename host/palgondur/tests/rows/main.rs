@@ -175,6 +175,18 @@ fn machines_that_are_not_canonical_are_minimised_before_packing() {
 }
 
 #[test]
+fn a_stored_form_keeps_its_meaning() {
+    // `.*` as it was packed when a dot held the line end too: one class, and one state, which accepts.
+    let mut form = [0; 196];
+    (form[0], form[194]) = (0x10, 0x40);
+    let stored = Form::from(&form[..]).unpack().unwrap();
+    assert_eq!(stored.matches("two\nlines"), Match::Accepted);
+    let word = b"\n".to_vec();
+    let separated = Comparison::Separated { word, rounds: 1 };
+    assert_eq!(stored.compare(&machine(".*")), separated);
+}
+
+#[test]
 fn a_lent_scratch_changes_no_answer() {
     let mut scratch = Scratch::default();
     for pattern in ["(ab*|a)b", "[b-a]", "a*", &many_sets(29), &many_sets(30)] {
