@@ -1,6 +1,6 @@
 -- A part is right for its expression: a law for each rule of the sets. The equations of the code are those of the definitions; unions are regrouped.
 --   right-within: no position of a part is above its count
---   right-alone, right-empty, right-nothing, right-moved, right-star, right-beside, right-either: the part of each kind of expression
+--   right-alone, right-empty, right-nothing, right-moved, right-marked, right-beside, right-either: the part of each kind of expression
 use Prim.Native.Nat.{ℕ, _+_, _^_, _<_}
 use mathlib.Core.Path.{_≡_, refl, sym, ap, ap₂, _∙_}
 use mathlib.Core.Bool.{Bool, true, false, _&&_, _||_, and-comm, or-false, or-assoc}
@@ -12,18 +12,20 @@ use lib.Bits.{bitOr, or-zero-r}
 use lib.Dec.{eqb}
 use Rattle.scope.specs.Positions.Bits.{has, given, null, first, last, follow, holders}
 use Rattle.scope.specs.Bytes.{ByteSet}
-use Rattle.scope.specs.Text.Re.{Re, none, eps, one, alt, cat, star, size}
+use Rattle.scope.specs.Text.Re.{Re, none, eps, one, alt, cat, size}
+use Rattle.scope.specs.Text.Tree.{Mark, marking}
 use Rattle.scope.proofs.Positions.Bits.{has-or, has-zero, has-pow, has-given, last-is}
 use Rattle.scope.proofs.Positions.Glushkov.{last-in}
+use Rattle.scope.proofs.Positions.Marked.{repeats, skips, size-marked, null-marked, first-marked, last-marked, follow-marked, holders-marked}
 use Rattle.scope.proofs.Positions.Moves.{same-bits}
 use Rattle.scope.proofs.Counting.Tests.{which, same-test, equals}
 use Rattle.scope.proofs.Operations.Buffers.{all-kept, tail-then}
 use Rattle.sets.specs.Value.{setValue, setAt}
 use Rattle.fragments.specs.declared.Fragment.{Fragment}
 use Rattle.sets.specs.Layout.{byteSets, held, wordSets}
-use Rattle.leaves.specs.MarkedBytes.{Marked}
+use Rattle.leaves.specs.GrownSets.{SetGrown}
 use Rattle.factors.specs.Right.{FollowCame, BytesCame, Right}
-use Rattle.fragments.specs.Shapes.{Linked, Alone, Blank, Beside, Either, Moved}
+use Rattle.fragments.specs.Shapes.{Linked, Alone, Blank, Beside, Either, Moved, WithMark}
 
 -- unions regrouped
 join-assoc : (a b c : ℕ) → bitOr (bitOr a b) c ≡ bitOr a (bitOr b c)
@@ -44,7 +46,7 @@ holds-both {e} {f} g {k} {n} {a} x y h = record {
 }
 
 -- the bytes of one position
-holds-one : {k : ℕ} {s : ByteSet} {m m′ : List ℕ} → Marked k s m m′ → BytesCame (one s) k m m′
+holds-one : {k : ℕ} {s : ByteSet} {m m′ : List ℕ} → SetGrown k s m m′ → BytesCame (one s) k m m′
 unfolding holders
 holds-one {k} {s} {m} x = record { kept = x .kept; bits = λ q b h. x .bits q b h ∙ ap (λ (y : Bool). held m q b || y) (same q b) }
   where
@@ -71,22 +73,24 @@ module _ {e : Re} {k : ℕ} {y y′ w w′ : List ℕ} {g : Fragment} where
   pub right-moved : {n : ℕ} {r : Fragment} → Right e k y y′ w w′ g → Moved g n (g .null) r → Right e k y y′ w w′ r
   right-moved x m = record { counts = cc; nulls = cc; firsts = cc; lasts = cc; follows = x .follows; holds = x .holds }
 
-  pub right-star : {n : ℕ} {w″ : List ℕ} {r : Fragment} → Right e k y y′ w w′ g → Linked (setValue (g .last .words)) (setValue (g .first .words)) w′ w″ → Moved g n true r → Right (star e) k y y′ w w″ r
-  unfolding null first last follow holders
-  right-star {w″ = w″} x l m = record {
-    counts = cc;
-    nulls = m .nulls;
-    firsts = cc;
-    lasts = cc;
+  pub right-marked : (m : Mark) {n : ℕ} {w″ : List ℕ} {r : Fragment} → Right e k y y′ w w′ g → WithMark (repeats m) (skips m) g n w′ w″ r → Right (marking m e) k y y′ w w″ r
+  right-marked m {w″ = w″} x c = record {
+    counts = c .moved .counts ∙ x .counts ∙ ap (λ (z : ℕ). k + z) (sym (size-marked m e));
+    nulls = c .moved .nulls ∙ ap (λ (z : Bool). skips m || z) (x .nulls) ∙ sym (null-marked m e);
+    firsts = c .moved .firsts ∙ x .firsts ∙ sym (first-marked m e k);
+    lasts = c .moved .lasts ∙ x .lasts ∙ sym (last-marked m e k);
     follows = record {
-      kept = tail-then (x .follows .kept) (l .kept);
-      sets = joins w w′ w″ (follow e k) (λ p. given (has (last e k) p) (first e k)) (x .follows .sets) (λ p. l .sets p ∙ ap₂ (λ (u v : ℕ). bitOr (setAt w′ p) (given (has u p) v)) (x .lasts) (x .firsts));
+      kept = tail-then (x .follows .kept) (c .linked .kept);
+      sets = λ p. joins w w′ w″ (follow e k) (λ p. given (repeats m && has (last e k) p) (first e k)) (x .follows .sets) link p ∙ ap (bitOr (setAt w p)) (sym (follow-marked m e k p));
     };
-    holds = record { kept = x .holds .kept; bits = x .holds .bits };
+    holds = record { kept = x .holds .kept; bits = λ q b l. x .holds .bits q b l ∙ ap (λ (z : ℕ). held y q b || has z (q + 1)) (sym (holders-marked m e k b)) };
   }
+    where
+      link : (p : ℕ) → setAt w″ p ≡ bitOr (setAt w′ p) (given (repeats m && has (last e k) p) (first e k))
+      link p = rw (← has-given, ← x .lasts, ← x .firsts) (c .linked .sets p)
 
 module _ {k n : ℕ} {y w : List ℕ} {r : Fragment} where
-  pub right-alone : {s : ByteSet} {y′ : List ℕ} → Marked k s y y′ → Alone n k r → Right (one s) k y y′ w w r
+  pub right-alone : {s : ByteSet} {y′ : List ℕ} → SetGrown k s y y′ → Alone n k r → Right (one s) k y y′ w w r
   unfolding null first last follow
   right-alone x a = record { counts = a .counts; nulls = a .nulls; firsts = a .firsts; lasts = a .lasts; follows = follows-none w (λ p. refl); holds = holds-one x }
 

@@ -5,7 +5,7 @@
 --   Answer l s i k y y′ w w′ g: g is the part of every l that can be read at i
 --   Going l s k y y′ w w′ g u j: g is a first part of the l with the tree u that ends at j
 --   Carried l s y w g y′ w′ g′: whatever g was a first part of, g′ is one of it, too
---   Starred s w g w′ g′: g′ is g with the stars after it
+--   WithMarks s w g w′ g′: g′ is g with the marks after it
 use Prim.Native.Nat.{ℕ, _+_, _<_, _≤_}
 use mathlib.Core.Path.{_≡_}
 use mathlib.Core.Bool.{false}
@@ -55,7 +55,7 @@ pub record Going (l : Level) (s : List ℕ) (k : ℕ) (y y′ w w′ : List ℕ)
 pub record Carried (l : Level) (s y w : List ℕ) (g : Fragment) (y′ w′ : List ℕ) (g′ : Fragment) : Type 0 where
   pub says : (k : ℕ) (y₀ w₀ : List ℕ) (u : Tree) (j : ℕ) → EndsLevel l (byte s j) → Going l s k y₀ y w₀ w g u j → Going l s k y₀ y′ w₀ w′ g′ u j
 
-pub record Starred (s w : List ℕ) (g : Fragment) (w′ : List ℕ) (g′ : Fragment) : Type 0 where
+pub record WithMarks (s w : List ℕ) (g : Fragment) (w′ : List ℕ) (g′ : Fragment) : Type 0 where
   pub on : g .next ≤ g′ .next
   pub inside : g′ .next ≤ length s
   pub ends : EndsLevel factors (byte s (g′ .next))

@@ -7,13 +7,13 @@
 use Prim.Native.Nat.{ℕ, _+_}
 use Prim.Native.Char.{code}
 use mathlib.Core.Path.{_≡_}
-use mathlib.Core.Bool.{true, _||_}
+use mathlib.Core.Bool.{true, false, _||_}
 use mathlib.Core.List.{List}
 use lib.Dec.{eqb}
 use Rattle.scope.specs.Bytes.{ByteSet, byte}
-use Rattle.scope.specs.Text.Grammar.{Level, atoms, factors, branches, exprs, Reads}
+use Rattle.scope.specs.Text.Grammar.{isMark, markByte, Level, atoms, factors, branches, exprs, Reads}
 use Rattle.scope.specs.Limits.{byteValues}
-use Rattle.scope.specs.Text.Tree.{Tree, starred, beside, either}
+use Rattle.scope.specs.Text.Tree.{Mark, Tree, marked, beside, either}
 
 abbrev pub GroupAt : List ℕ → ℕ → Type 0
 GroupAt s i = byte s i ≡ code "("
@@ -27,7 +27,7 @@ stops b = closesExpr b || eqb b (code "|")
 
 abbrev pub EndsLevel : Level → ℕ → Type 0
 EndsLevel atoms b = Unit {0}
-EndsLevel factors b = b ≡ code "*" → ⊥
+EndsLevel factors b = isMark b ≡ false
 EndsLevel branches b = stops b ≡ true
 EndsLevel exprs b = closesExpr b ≡ true
 
@@ -36,6 +36,6 @@ WholeLevel l s i j t = Reads s l i j t × EndsLevel l (byte s j)
 
 pub data Tail (s : List ℕ) : Level → Tree → ℕ → Tree → ℕ → Type 0 where
   done : {l : Level} {t : Tree} {j : ℕ} → Tail s l t j t j
-  a-star : {t u : Tree} {j k : ℕ} → byte s j ≡ code "*" → Tail s factors (starred t) (j + 1) u k → Tail s factors t j u k
+  a-mark : {t u : Tree} {j k : ℕ} (m : Mark) → byte s j ≡ markByte m → Tail s factors (marked m t) (j + 1) u k → Tail s factors t j u k
   a-factor : {t u f : Tree} {j k m : ℕ} → WholeLevel factors s j m f → Tail s branches (beside t f) m u k → Tail s branches t j u k
   a-branch : {t u f : Tree} {j k m : ℕ} → byte s j ≡ code "|" → WholeLevel branches s (j + 1) m f → Tail s exprs (either t f) m u k → Tail s exprs t j u k

@@ -1,22 +1,23 @@
-// What a factor is made of, but for parentheses: a leaf, and the stars after an atom. Each reads what the text has at a place, and requires that it is there.
+// What a factor is made of, but for parentheses: a leaf, and the marks after an atom. Each reads what the text has at a place, and requires that it is there.
 ghost use mathlib.Core.List.{List};
 ghost use Prim.Native.Nat.{ℕ, _≤_};
 ghost use lib.ListN.{length};
 ghost use Rattle.scope.specs.Text.Grammar.{atoms};
 ghost use Rattle.sets.specs.Layout.{byteSets};
 ghost use Rattle.factors.specs.Tails.{GroupAt};
-ghost use Rattle.factors.specs.Answer.{Fit, Readable, Starred, Answer};
+ghost use Rattle.factors.specs.Answer.{Fit, Readable, WithMarks, Answer};
 use fragments::Fragment;
 use fragments::alone;
 use fragments::blank;
-use fragments::link;
-use fragments::moved;
+use fragments::marked;
 use leaves::single;
 use leaves::text::EMPTY;
 use leaves::text::NOTHING;
-use leaves::text::STAR;
 use leaves::text::byte_at;
 use leaves::text::escaped;
+use literals::OPTION;
+use literals::PLUS;
+use literals::is_mark;
 
 // An atom other than one in parentheses.
 pub fn leaf(text: &[u8], at: usize, count: usize, bytes: &mut [u8]) -> Fragment
@@ -34,15 +35,15 @@ pub fn leaf(text: &[u8], at: usize, count: usize, bytes: &mut [u8]) -> Fragment
     alone(single(text, at, count, bytes), count)
 }
 
-// The part with the stars after it.
-pub fn stars(text: &[u8], part: Fragment, words: &mut [u64]) -> Fragment
+// The part with the marks after it.
+pub fn marks(text: &[u8], part: Fragment, words: &mut [u64]) -> Fragment
     requires { ⌜ Fit (now text) (now words) part ⌝ }
-    ensures { λ r. ⌜ Starred (now (text .entry)) (now (words .entry)) part (now (words .exit)) r ⌝ }
+    ensures { λ r. ⌜ WithMarks (now (text .entry)) (now (words .entry)) part (now (words .exit)) r ⌝ }
 {
     let mut all = part;
-    while byte_at(text, all.next) == STAR {
-        link(words, all.count, all.last, all.first);
-        all = moved(all, all.next + 1, true);
+    while is_mark(byte_at(text, all.next)) {
+        let b = byte_at(text, all.next);
+        all = marked(all, all.next + 1, b != OPTION, b != PLUS, words);
     }
     all
 }

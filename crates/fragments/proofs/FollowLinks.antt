@@ -1,6 +1,7 @@
 -- Linking position by position: those below p have their first set already, the others not yet.
 --   Linking p last first m m′: the positions of `last` below p are linked
 --   link-none, link-more, link-all: none, one more, all are
+--   linked-none: the empty set is linked to nothing
 use Prim.Native.Nat.{ℕ, _+_, _<_, _≤_}
 use mathlib.Core.Path.{_≡_, refl, sym, ap, _∙_}
 use mathlib.Core.Bool.{Bool, false, _&&_}
@@ -14,6 +15,7 @@ use lib.Dec.{ltb}
 use Rattle.scope.specs.Positions.Bits.{has, given}
 use Rattle.scope.specs.Operations.Buffers.{TailKept}
 use Rattle.scope.proofs.Counting.Tests.{split, not-below}
+use Rattle.scope.proofs.Positions.Bits.{has-zero}
 use Rattle.scope.proofs.Operations.Buffers.{all-kept, tail-then}
 use Rattle.sets.specs.Value.{setBits, setAt, Put}
 use Rattle.sets.proofs.Words.{put-other}
@@ -48,3 +50,6 @@ link-all {p} {last} {first} {count} {m} l h f = record { kept = l .kept; sets = 
     same : (q : ℕ) → (q < p) ⊎ (p ≤ q) → (ltb q p && has last q) ≡ has last q
     same q (inl k) = rw (lt-ltb q p k) refl
     same q (inr k) = rw (not-below q p k) (sym (f q (omega arith)))
+
+pub linked-none : (first : ℕ) (m : List ℕ) → Linked 0 first m m
+linked-none first m = record { kept = all-kept m wordSets; sets = λ p. rw has-zero (sym (or-zero-r (setAt m p))) }

@@ -1,5 +1,6 @@
 -- Parts of a pattern, and how they are made of each other.
 --   Linked last first m m′: the set `first` came into the set of each position of `last`
+--   WithMark repeats skips a next m m′ r: r is a with a mark after it
 --   Alone, Blank, Beside, Either, Moved: the parts that a position, no position, two parts side by side, one or the other, and a part read further are
 use Prim.Native.Nat.{ℕ, _+_, _^_}
 use mathlib.Core.Path.{_≡_}
@@ -50,3 +51,8 @@ pub record Moved (a : Fragment) (next : ℕ) (null : Bool) (r : Fragment) : Type
   pub nulls : r .null ≡ null
   pub firsts : setValue (r .first .words) ≡ setValue (a .first .words)
   pub lasts : setValue (r .last .words) ≡ setValue (a .last .words)
+
+-- a mark that repeats a links it to itself; one that skips it adds the empty word
+pub record WithMark (repeats skips : Bool) (a : Fragment) (next : ℕ) (m m′ : List ℕ) (r : Fragment) : Type 0 where
+  pub linked : Linked (given repeats (setValue (a .last .words))) (setValue (a .first .words)) m m′
+  pub moved : Moved a next (skips || a .null) r

@@ -7,7 +7,7 @@ ghost use Rattle.scope.specs.Positions.Bits.{has, given};
 ghost use Rattle.scope.specs.Limits.{positionLimit};
 ghost use Rattle.sets.specs.Value.{setBits, setValue};
 ghost use Rattle.sets.specs.Layout.{wordSets};
-ghost use Rattle.fragments.specs.Shapes.{Linked, Alone, Blank, Beside, Either, Moved};
+ghost use Rattle.fragments.specs.Shapes.{Linked, Alone, Blank, Beside, Either, Moved, WithMark};
 use sets::Set;
 
 // A part that was read: the place after it, the number of positions up to there, and its sets.
@@ -112,4 +112,18 @@ pub fn link(words: &mut [u64], count: usize, last: Set, first: Set)
         sets::store(words, p, s);
         p += 1;
     }
+}
+
+// a with a mark after it, and the place after that: the mark may let a come again, and may let it be left out.
+pub fn marked(a: Fragment, next: usize, repeats: bool, skips: bool, words: &mut [u64]) -> Fragment
+    requires { ⌜ (a .count < setBits) × (wordSets ≤ length (now words)) ⌝ }
+    requires { ⌜ ((p : ℕ) → a .count < p → has (setValue (a .last .words)) p ≡ false) ⌝ }
+    ensures { λ r. ⌜ WithMark repeats skips a next (now (words .entry)) (now (words .exit)) r ⌝ }
+{
+    let r = moved(a, next, skips | a.null);
+    if repeats {
+        link(words, a.count, a.last, a.first);
+        return r;
+    }
+    r
 }

@@ -16,16 +16,16 @@ use Rattle.scope.specs.Limits.{byteValues}
 use Rattle.scope.specs.Text.Tree.{Tree}
 use Rattle.scope.specs.Text.Judge.{Pattern}
 use Rattle.scope.proofs.Counting.Lists.{any-default}
-use Rattle.scope.specs.Text.Modes.{Piece, atom, at, isStuck, afterAtom, runTo}
-use Rattle.scope.proofs.Text.Places.{legal-exact, stuck-at, unfinished}
+use Rattle.modes.specs.Modes.{Piece, atom, at, isStuck, afterAtom, runTo}
+use Rattle.modes.proofs.Places.{legal-exact, stuck-at, unfinished}
 use Rattle.judge.specs.declared.Judged.{Judged}
 use Rattle.judge_state.specs.declared.Reading.{Reading}
 use Rattle.judge.specs.Judges.{JudgesText, legal, syntax, range, depth, positions}
-use Rattle.judge_state.specs.Notes.{blank}
+use Rattle.modes.specs.Notes.{blank, notesTo}
 use Rattle.judge.specs.Faults.{Finds, nothing, falling, deep, many, Faults}
 use Rattle.judge_state.specs.Reading.{pieceOf, stateOf, standing, NotesKept}
 use Rattle.judge_inside.specs.Steps.{Advances}
-use Rattle.judge.proofs.Drives.{notesTo, NotedAll, legal-notes}
+use Rattle.modes.proofs.Drives.{NotedAll, legal-notes}
 use Rattle.judge_state.proofs.ByteTaken.{beyond-stage}
 
 pub record Follows (s : List ℕ) (i : ℕ) (x : Reading) : Type 0 where
@@ -91,7 +91,7 @@ whole-is x e = go (x .stage) refl e
     go (suc (suc (suc (suc (suc k))))) h d = let z : _≡_ {A = ℕ} 0 1 = cc in absurd (omega arith)
 
 -- what is judged of the places that were noted is judged of the tree
-judges-by : (s : List ℕ) {t : Tree} {r : Judged} → Pattern s t → NotedAll s t → Finds (notesTo s (length s) .marks) r → JudgesText s r
+judges-by : (s : List ℕ) {t : Tree} {r : Judged} → Pattern s t → NotedAll s t → Finds (notesTo s (length s) .sheet) r → JudgesText s r
 judges-by s p n (nothing a b c) =
     legal (record { pattern = p; ordered = rw (n .falls-noted) at a; shallow = rw (n .opens-noted) at b; brief = rw (n .firsts-noted) at c })
 judges-by s p n (falling a) = range p (rw (n .falls-noted) at a)

@@ -11,9 +11,9 @@ use mathlib.Core.Logic.{_⊎_, inl, inr}
 use native.Mathlib.Omega.{arith}
 use Rattle.scope.specs.Text.Grammar.{escapable, classLiteral, hex}
 use Rattle.scope.proofs.Counting.Tests.{below, not-below}
-use Rattle.scope.specs.Text.Modes.{Piece, atom, low, high, done, back, digit, stuck, at, afterAtom, begins, empties, next}
-use Rattle.scope.specs.Text.Modes as mode
-use Rattle.judge_state.specs.Notes.{Notes, readAs, begunAt, noted}
+use Rattle.modes.specs.Modes.{Piece, atom, low, high, done, back, digit, stuck, at, afterAtom, begins, empties, next}
+use Rattle.modes.specs.Modes as mode
+use Rattle.modes.specs.Notes.{Notes, readAs, begunAt, noted}
 use Rattle.judge_state.specs.Reading.{pieceOf, standing, NotesKept, Takes}
 use Rattle.judge_state.specs.declared.Reading.{Reading}
 use Rattle.judge_state.proofs.Keeps.{kept-since}
@@ -121,7 +121,7 @@ module _ (p : Piece) (b : ℕ) {x y : Reading} where
   back-none e f g = takes-stuck (rw (e, unlike f) g)
 
   -- the first digit
-  pub code-first : {v : ℕ} → v ≡ hex b → v < 16 → standing y ≡ at (digit p) (x .deep) → ((m : Notes) → NotesKept m x → NotesKept (record { half = v; marks = m .marks }) y) → Placeless (mode.code p) x b y
+  pub code-first : {v : ℕ} → v ≡ hex b → v < 16 → standing y ≡ at (digit p) (x .deep) → ((m : Notes) → NotesKept m x → NotesKept (record { half = v; sheet = m .sheet }) y) → Placeless (mode.code p) x b y
   code-first e h s k = record { state = s ∙ rw (← e, below _ 16 .full h) refl; notes = λ _ m r. rw (← e) (k m r) }
 
   -- no digit

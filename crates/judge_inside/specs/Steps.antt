@@ -3,8 +3,8 @@
 --   Placeless m x b y: the byte b, in a mode m in which its place does not count
 --   Advances x b i y: the byte b at i
 use Prim.Native.Nat.{ℕ}
-use Rattle.scope.specs.Text.Modes.{Piece, Mode, stuck, begins, next, step}
-use Rattle.judge_state.specs.Notes.{begunAt, noted, note}
+use Rattle.modes.specs.Modes.{Piece, Mode, stuck, begins, next, step}
+use Rattle.modes.specs.Notes.{begunAt, noted, note}
 use Rattle.judge_state.specs.Reading.{standing, Takes}
 use Rattle.judge_state.specs.declared.Reading.{Reading}
 

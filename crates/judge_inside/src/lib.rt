@@ -1,6 +1,6 @@
 // Inside one atom: the bytes of its class, with their ranges, and escapes, of the atom itself and of the bytes of a class.
 ghost use Prim.Native.Nat.{_<_, _≤_};
-ghost use Rattle.scope.specs.Text.Modes.{back, code, digit};
+ghost use Rattle.modes.specs.Modes.{back, code, digit};
 ghost use Rattle.judge_state.specs.Reading.{pieceOf, Bounded};
 ghost use Rattle.judge_inside.specs.Steps.{Begins, Placeless, Advances};
 use judge_state::Reading;

@@ -11,8 +11,8 @@ use native.Mathlib.Omega.{arith}
 use borrow.Author.Tests.{ne-eqb}
 use lib.Dec.{eqb}
 use Rattle.scope.specs.Limits.{positionLimit}
-use Rattle.scope.specs.Text.Modes.{Piece, high, State, stuck, isStuck}
-use Rattle.judge_state.specs.Notes.{Notes, readAs}
+use Rattle.modes.specs.Modes.{Piece, high, State, stuck, isStuck}
+use Rattle.modes.specs.Notes.{Notes, readAs}
 use Rattle.judge_state.specs.Reading.{pieceOf, stateOf, standing, Keeps, NotesKept, TallyMore, Takes}
 use Rattle.judge_state.specs.declared.Tally.{Tally}
 use Rattle.judge_state.specs.declared.Reading.{Reading}

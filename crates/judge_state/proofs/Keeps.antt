@@ -15,8 +15,8 @@ use Rattle.scope.specs.Limits.{nestLimit, positionLimit}
 use Rattle.scope.specs.Text.Tree.{onlyIf}
 use Rattle.scope.specs.Text.Judge.{Beyond}
 use Rattle.scope.proofs.Counting.Tests.{equals, below, not-below}
-use Rattle.scope.specs.Text.Modes.{atom, low, high}
-use Rattle.judge_state.specs.Notes.{Notes, since, readAs, nestedAt}
+use Rattle.modes.specs.Modes.{atom, low, high}
+use Rattle.modes.specs.Notes.{Notes, since, readAs, nestedAt}
 use Rattle.judge_state.specs.Reading.{Tallied, Keeps, TallyMore}
 use Rattle.judge_state.specs.declared.Tally.{Tally}
 
@@ -56,11 +56,11 @@ no-more i e a = rw (e, append-nil) a
 
 module _ {x : Notes} {half from least : ℕ} {falls opens firsts : Tally} (k : Keeps x half from least falls opens firsts) where
   -- what is being read began at i
-  pub kept-since : (i : ℕ) → Keeps (record { half = x .half; marks = since i (x .marks) }) half i least falls opens firsts
+  pub kept-since : (i : ℕ) → Keeps (record { half = x .half; sheet = since i (x .sheet) }) half i least falls opens firsts
   kept-since i = record { half-is = k .half-is; from-is = refl; least-is = k .least-is; falls-kept = k .falls-kept; opens-kept = k .opens-kept; firsts-kept = k .firsts-kept }
 
   -- the first digit is h
-  pub kept-half : (h : ℕ) → Keeps (record { half = h; marks = x .marks }) h from least falls opens firsts
+  pub kept-half : (h : ℕ) → Keeps (record { half = h; sheet = x .sheet }) h from least falls opens firsts
   kept-half h = record { half-is = refl; from-is = k .from-is; least-is = k .least-is; falls-kept = k .falls-kept; opens-kept = k .opens-kept; firsts-kept = k .firsts-kept }
 
   -- an atom was read: one position more
@@ -74,7 +74,7 @@ module _ {x : Notes} {half from least : ℕ} {falls opens firsts : Tally} (k : K
 
   -- other falling ranges
   falls-now : {l : List ℕ} {t : Tally} → Tallied 0 l t
-      → Keeps (record { half = x .half; marks = record { from = x .marks .from; least = x .marks .least; falls = l; opens = x .marks .opens; firsts = x .marks .firsts } }) half from least t opens firsts
+      → Keeps (record { half = x .half; sheet = record { from = x .sheet .from; least = x .sheet .least; falls = l; opens = x .sheet .opens; firsts = x .sheet .firsts } }) half from least t opens firsts
   falls-now a = record { half-is = k .half-is; from-is = k .from-is; least-is = k .least-is; falls-kept = a; opens-kept = k .opens-kept; firsts-kept = k .firsts-kept }
 
   -- a high end was read, below the low one
@@ -87,7 +87,7 @@ module _ {x : Notes} {half from least : ℕ} {falls opens firsts : Tally} (k : K
 
   -- other parentheses
   opens-now : {l : List ℕ} {t : Tally} → Tallied 0 l t
-      → Keeps (record { half = x .half; marks = record { from = x .marks .from; least = x .marks .least; falls = x .marks .falls; opens = l; firsts = x .marks .firsts } }) half from least falls t firsts
+      → Keeps (record { half = x .half; sheet = record { from = x .sheet .from; least = x .sheet .least; falls = x .sheet .falls; opens = l; firsts = x .sheet .firsts } }) half from least falls t firsts
   opens-now a = record { half-is = k .half-is; from-is = k .from-is; least-is = k .least-is; falls-kept = k .falls-kept; opens-kept = a; firsts-kept = k .firsts-kept }
 
   -- a parenthesis opened inside as many others as may be

@@ -1,3 +1,2 @@
--- The notes beside the mode machine, and the code's numbers.
-pub mod Notes
+-- The code's numbers, and what they stand for.
 pub mod Reading

@@ -13,8 +13,8 @@ use mathlib.Core.List.{List, [], _∷_, _++_}
 use lib.ListN.{length}
 use Rattle.scope.specs.Limits.{positionLimit}
 use Rattle.scope.specs.Text.Judge.{Beyond}
-use Rattle.scope.specs.Text.Modes.{Piece, atom, low, high, await, done, back, code, digit, State, stuck, at, isStuck}
-use Rattle.judge_state.specs.Notes.{Notes, readAs}
+use Rattle.modes.specs.Modes.{Piece, atom, low, high, await, done, back, code, digit, State, stuck, at, isStuck}
+use Rattle.modes.specs.Notes.{Notes, readAs}
 use Rattle.judge_state.specs.declared.Tally.{Tally}
 use Rattle.judge_state.specs.declared.Reading.{Reading}
 
@@ -40,11 +40,11 @@ pub record Tallied (n : ℕ) (l : List ℕ) (t : Tally) : Type 0 where
 
 pub record Keeps (x : Notes) (half from least : ℕ) (falls opens firsts : Tally) : Type 0 where
   pub half-is : half ≡ x .half
-  pub from-is : from ≡ x .marks .from
-  pub least-is : least ≡ x .marks .least
-  pub falls-kept : Tallied 0 (x .marks .falls) falls
-  pub opens-kept : Tallied 0 (x .marks .opens) opens
-  pub firsts-kept : Tallied positionLimit (x .marks .firsts) firsts
+  pub from-is : from ≡ x .sheet .from
+  pub least-is : least ≡ x .sheet .least
+  pub falls-kept : Tallied 0 (x .sheet .falls) falls
+  pub opens-kept : Tallied 0 (x .sheet .opens) opens
+  pub firsts-kept : Tallied positionLimit (x .sheet .firsts) firsts
 
 abbrev pub NotesKept : Notes → Reading → Type 0
 NotesKept n x = Keeps n (x .half) (x .from) (x .least) (x .falls) (x .opens) (x .firsts)

@@ -2,8 +2,8 @@
 ghost use mathlib.Core.Path.{_≡_};
 ghost use Prim.Native.Nat.{_≤_};
 ghost use Rattle.scope.specs.Limits.{positionLimit};
-ghost use Rattle.scope.specs.Text.Modes.{stuck};
-ghost use Rattle.judge_state.specs.Notes.{blank};
+ghost use Rattle.modes.specs.Modes.{stuck};
+ghost use Rattle.modes.specs.Notes.{blank};
 ghost use Rattle.judge_state.specs.Reading.{standing, NotesKept, TallyMore, ReadAs, Bounded};
 use scope::Machine;
 

@@ -1,7 +1,7 @@
 -- One law for each way that a byte is taken outside of classes and escapes, and one for each stage. The byte's test, or its value, decides the next state and
 -- the notes at once; x is the record before the byte, y the one after it.
 --   nest-state: a parenthesis opens
---   begin-..: an atom may begin; await-none, star-taken, bar-taken, close-..: it is awaited or done; atom-else: so it may begin
+--   begin-..: an atom may begin; atom-awaited: where it is awaited; mark-taken, bar-taken, close-.., atom-else: where one is done
 --   at-..: by the stage
 use Prim.Native.Nat.{ℕ, zero, suc, _+_, _-_, _<_, _≤_}
 use Prim.Native.Char.{code}
@@ -10,9 +10,10 @@ use mathlib.Core.Bool.{true, false}
 use mathlib.Core.Logic.{_⊎_, inl, inr}
 use native.Mathlib.Omega.{arith}
 use native.Mathlib.Numerals.{add-one}
-use Rattle.scope.specs.Text.Grammar.{literal}
-use Rattle.scope.specs.Text.Modes.{atom, await, back, digit, stuck, at, afterAtom, closes}
-use Rattle.scope.specs.Text.Modes as mode
+use Rattle.scope.specs.Text.Grammar.{literal, isMark}
+use Rattle.modes.specs.Modes.{atom, await, back, digit, stuck, at, afterAtom, closes}
+use Rattle.modes.specs.Modes as mode
+use Rattle.modes.proofs.MarkSteps.{mark-begins, mark-step, mark-notes}
 use Rattle.judge_state.specs.Reading.{pieceOf, stateOf, standing, ReadAs}
 use Rattle.judge_state.specs.declared.Reading.{Reading}
 use Rattle.judge_state.proofs.Keeps.{kept-since}
@@ -60,41 +61,32 @@ begin-none b i h f g l m = takes-stuck (rw (h, unlike f, unlike g, unlike l, unl
 -- ---- where an atom is awaited or done
 
 module _ {x y : Reading} (b i : ℕ) (e : x .piece ≡ 0) where
-  -- `*`, `|` and `)` where an atom is awaited
-  pub await-none : x .stage ≡ 0 → (b ≡ code "*") ⊎ ((b ≡ code "|") ⊎ (b ≡ code ")")) → standing y ≡ stuck → Advances x b i y
-  unfolding literal
-  await-none d (inl h) = takes-stuck (rw (d, e, h) refl)
-  await-none d (inr (inl h)) = takes-stuck (rw (d, e, h) refl)
-  await-none d (inr (inr h)) = takes-stuck (rw (d, e, h) refl)
+  -- awaited: it may begin, and nothing else goes on
+  pub atom-awaited : x .stage ≡ 0 → Begins atom x b i y → Advances x b i y
+  atom-awaited d t = takes-as (rw (d, e) refl) (λ n. rw (d, e) refl) t
+
+  -- done, and the byte is none of those below: another may begin
+  pub atom-else : x .stage ≡ 1 → isMark b ≡ false → (b ≡ code "|" → ⊥) → (b ≡ code ")" → ⊥) → Begins atom x b i y → Advances x b i y
+  atom-else d f g h t = takes-as (rw (d, e, f, unlike g, unlike h) refl) (λ n. rw (d, e) refl) t
 
   -- `)` where nothing is open
   pub close-none : x .stage ≡ 1 → b ≡ code ")" → x .deep ≡ 0 → standing y ≡ stuck → Advances x b i y
-  unfolding literal
+  unfolding literal isMark
   close-none d h z = takes-stuck (rw (d, e, h, z) refl)
 
-  -- any other byte: an atom may begin
-  pub atom-else : x .stage ≤ 1 → (b ≡ code "*" → ⊥) → (b ≡ code "|" → ⊥) → (b ≡ code ")" → ⊥) → Begins atom x b i y → Advances x b i y
-  atom-else d f g h t = go (x .stage) refl d
-    where
-      go : (k : ℕ) → x .stage ≡ k → k ≤ 1 → Advances x b i y
-      go zero c l = takes-as (rw (c, e) refl) (λ n. rw (c, e) refl) t
-      go (suc zero) c l = takes-as (rw (c, e, unlike f, unlike g, unlike h) refl) (λ n. rw (c, e) refl) t
-      go (suc (suc k)) c l = absurd (omega arith)
-
 module _ {x : Reading} (b i : ℕ) (e : x .piece ≡ 0) (d : x .stage ≡ 1) where
-  -- `*`
-  pub star-taken : b ≡ code "*" → Advances x b i x
-  unfolding literal
-  star-taken h = record { state = rw (d, e, h) refl; notes = λ _ n k. rw (d, e, h) k }
+  -- a mark
+  pub mark-taken : isMark b ≡ true → Advances x b i x
+  mark-taken h = record { state = rw (d, e) (sym (mark-step b h _)); notes = λ _ n k. rw (d, e, mark-notes b h _ i _ _) k }
 
   -- `|`
   pub bar-taken : b ≡ code "|" → Advances x b i (moved 0 (x .piece) (x .deep) x)
-  unfolding literal
+  unfolding literal isMark
   bar-taken h = record { state = rw (d, e, h) refl; notes = λ _ n k. rw (d, e, h) k }
 
   -- `)`
   pub close-taken : b ≡ code ")" → (x .deep ≡ 0 → ⊥) → Advances x b i (moved (x .stage) (x .piece) (x .deep - 1) x)
-  unfolding literal
+  unfolding literal isMark
   close-taken h f = record { state = rw (d, e, h) (sym (less (x .deep) f)); notes = λ _ n k. rw (d, e, h) k }
     where
       less : (n : ℕ) → (n ≡ 0 → ⊥) → closes n ≡ at afterAtom (n - 1)

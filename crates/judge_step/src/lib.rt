@@ -1,7 +1,7 @@
 // One byte more of a text: what is known after it, of what was known before it.
 ghost use mathlib.Core.Path.{_≡_};
 ghost use Prim.Native.Nat.{_<_, _≤_};
-ghost use Rattle.scope.specs.Text.Modes.{atom};
+ghost use Rattle.modes.specs.Modes.{atom};
 ghost use Rattle.judge_state.specs.Reading.{Bounded};
 ghost use Rattle.judge_inside.specs.Steps.{Begins, Advances};
 ghost use Rattle.judge_step.specs.Nests.{Nests};
@@ -60,25 +60,18 @@ fn at_atom(mut x: Reading, b: u8, place: usize) -> Reading
     ensures { λ r. ⌜ Advances x b place r ⌝ }
     ensures { λ r. ⌜ Bounded x r ⌝ }
 {
-    let stage = x.stage;
-    let deep = x.deep;
-    if b == b'*' {
-        if stage == Reading::AWAIT {
-            return x.stuck();
-        }
+    if x.stage == Reading::AWAIT {
+        return begin_atom(x, b, place);
+    }
+    if literals::is_mark(b as usize) {
         return x;
     }
     if b == b'|' {
-        if stage == Reading::AWAIT {
-            return x.stuck();
-        }
         x.stage = Reading::AWAIT;
         return x;
     }
     if b == b')' {
-        if stage == Reading::AWAIT {
-            return x.stuck();
-        }
+        let deep = x.deep;
         if deep == 0 {
             return x.stuck();
         }

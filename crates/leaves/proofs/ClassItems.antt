@@ -18,10 +18,10 @@ use Rattle.scope.specs.Text.Grammar.{classLiteral, ClassByte, OneItem, one-byte
 use Rattle.scope.specs.Limits.{patternLimit}
 use Rattle.scope.specs.Text.Tree.{Item, lone, range, itemSet, itemsSet}
 use Rattle.scope.proofs.Text.Grammar.{class-byte-on, class-byte-one, item-on, items-on, items-head}
-use Rattle.leaves.specs.MarkedBytes.{Marked}
+use Rattle.leaves.specs.GrownSets.{SetGrown}
 use Rattle.leaves.specs.ReadAt.{Some, WholeItem, WholeItems, Took}
 use Rattle.leaves.proofs.ByteByByte.{class-byte-in, item-in, items-in}
-use Rattle.leaves.proofs.MarkedBytes.{Left, left-all, left-more, left-none, marked-as, between-one}
+use Rattle.leaves.proofs.GrownSets.{Left, left-all, left-more, left-none, grown-as, between-one}
 
 -- a reading that moves on and ends inside of the text begins there
 pub some : {A : Type 0} (R : List ℕ → ℕ → ℕ → A → Type 0) {s : List ℕ} {i j : ℕ} {x : A} → length s ≤ patternLimit → R s i j x → i < j → j ≤ length s → Some R s i
@@ -29,7 +29,7 @@ some R {j = j} {x = x} h r a b = record { short = h; inside = omega arith; end =
 
 -- what is said of every reading, with one that there is
 pub took : {A : Type 0} {R : List ℕ → ℕ → ℕ → A → Type 0} {set : A → ByteSet} {s : List ℕ} {i k : ℕ} {m m′ : List ℕ} {r : ℕ} → Some R s i
-    → ((j : ℕ) (x : A) → R s i j x → (i < j) × (j ≤ length s)) → ((j : ℕ) (x : A) → R s i j x → (r ≡ j) × Marked k (set x) m m′) → Took R set s i k m m′ r
+    → ((j : ℕ) (x : A) → R s i j x → (i < j) × (j ≤ length s)) → ((j : ℕ) (x : A) → R s i j x → (r ≡ j) × SetGrown k (set x) m m′) → Took R set s i k m m′ r
 took p b f = let e = f (p .end) (p .what) (p .reads) .0 in let (on, inside) = b (p .end) (p .what) (p .reads) in record { on = omega arith; inside = omega arith; says = f }
 
 module _ {s : List ℕ} where
@@ -64,13 +64,13 @@ module _ {s : List ℕ} where
     lone-of e (one-byte d) = let (o, l) = class-byte-one d c in (sym o, ap lone l)
     lone-of e (low-high d g v) = absurd (e (p ∙ ap (byte s) (sym (class-byte-one d c .0)) ∙ g))
 
-    pub item-range : {z high k : ℕ} {m m′ : List ℕ} → Some WholeItem s i → ClassByte s (a + 1) z high → b ≡ code "-" → Marked k (between low high) m m′ → Took WholeItem itemSet s i k m m′ z
+    pub item-range : {z high k : ℕ} {m m′ : List ℕ} → Some WholeItem s i → ClassByte s (a + 1) z high → b ≡ code "-" → SetGrown k (between low high) m m′ → Took WholeItem itemSet s i k m m′ z
     unfolding itemSet
     item-range q u e m = took q item-bounds (λ j x (r, n). let (o, l) = range-of u e r n in (o, rw l m))
 
-    pub item-lone : {k : ℕ} {m m′ : List ℕ} → Some WholeItem s i → (b ≡ code "-" → ⊥) → Marked k (between low low) m m′ → Took WholeItem itemSet s i k m m′ a
+    pub item-lone : {k : ℕ} {m m′ : List ℕ} → Some WholeItem s i → (b ≡ code "-" → ⊥) → SetGrown k (between low low) m m′ → Took WholeItem itemSet s i k m m′ a
     unfolding itemSet
-    item-lone q e m = took q item-bounds (λ j x (r, n). let (o, l) = lone-of e r in (o, rw l (marked-as m (λ n h. between-one low n))))
+    item-lone q e m = took q item-bounds (λ j x (r, n). let (o, l) = lone-of e r in (o, rw l (grown-as m (λ n h. between-one low n))))
 
 -- ---- the items of a class
 

@@ -14,10 +14,10 @@ use Rattle.scope.specs.Limits.{byteValues}
 use Rattle.scope.specs.Text.Tree.{Leaf, dotSet, itemsSet, setOf}
 use Rattle.scope.proofs.Counting.Tests.{all-is, same-bool}
 use Rattle.scope.proofs.Text.Grammar.{other, escape-head, escape-on, items-on, single-on, single-one}
-use Rattle.leaves.specs.MarkedBytes.{Marked}
+use Rattle.leaves.specs.GrownSets.{SetGrown}
 use Rattle.leaves.specs.ReadAt.{Some, WholeItems, Took}
 use Rattle.leaves.proofs.ByteByByte.{escape-in, items-in, single-in}
-use Rattle.leaves.proofs.MarkedBytes.{marked-both, marked-as, between-one}
+use Rattle.leaves.proofs.GrownSets.{grown-both, grown-as, between-one}
 use Rattle.leaves.proofs.ClassItems.{some, took}
 
 -- the bytes before the line end, and those after it
@@ -25,15 +25,15 @@ dot-both : (n : ℕ) → n < byteValues → dotSet n ≡ (between 0x00 0x09 n ||
 unfolding between dotSet
 dot-both n h = same-bool _ _ .sound (all-is (λ b. Bool·beq (dotSet b) (between 0x00 0x09 b || between 0x0B 0xFF b)) byteValues .sound refl n h)
 
-pub dot-ranges : {k z a b : ℕ} {m m′ m″ : List ℕ} → Marked k (between z a) m m′ → Marked k (between b 0xFF) m′ m″ → z ≡ 0x00 → a ≡ 0x09 → b ≡ 0x0B → Marked k dotSet m m″
-dot-ranges x y d e f = marked-both x y (λ n h. rw (d, e, f) (dot-both n h))
+pub dot-ranges : {k z a b : ℕ} {m m′ m″ : List ℕ} → SetGrown k (between z a) m m′ → SetGrown k (between b 0xFF) m′ m″ → z ≡ 0x00 → a ≡ 0x09 → b ≡ 0x0B → SetGrown k dotSet m m″
+dot-ranges x y d e f = grown-both x y (λ n h. rw (d, e, f) (dot-both n h))
 
 module _ {s : List ℕ} {i b : ℕ} (p : Some Single s i) (q : b ≡ byte s i) where
   -- one reading is every reading
-  alone : {k r : ℕ} {x : Leaf} {m m′ : List ℕ} → Single s i r x → Marked k (setOf x) m m′ → Took Single setOf s i k m m′ r
+  alone : {k r : ℕ} {x : Leaf} {m m′ : List ℕ} → Single s i r x → SetGrown k (setOf x) m m′ → Took Single setOf s i k m m′ r
   alone y m = took p (λ j z w. (single-on w, single-in w)) (λ j z w. let (e, d) = single-one y w in (e, rw d at m))
 
-  pub single-dot : {k : ℕ} {m m′ : List ℕ} → b ≡ code "." → Marked k dotSet m m′ → Took Single setOf s i k m m′ (i + 1)
+  pub single-dot : {k : ℕ} {m m′ : List ℕ} → b ≡ code "." → SetGrown k dotSet m m′ → Took Single setOf s i k m m′ (i + 1)
   unfolding setOf
   single-dot e m = alone (a-dot (sym q ∙ e)) m
 
@@ -64,9 +64,9 @@ module _ {s : List ℕ} {i b : ℕ} (p : Some Single s i) (q : b ≡ byte s i) w
   pub single-escape : b ≡ code "\\" → Some Escape s i
   single-escape = byte-of (p .reads)
 
-  pub single-byte : {k r c : ℕ} {m m′ : List ℕ} → Escape s i r c → Marked k (between c c) m m′ → Took Single setOf s i k m m′ r
+  pub single-byte : {k r c : ℕ} {m m′ : List ℕ} → Escape s i r c → SetGrown k (between c c) m m′ → Took Single setOf s i k m m′ r
   unfolding setOf
-  single-byte {c = c} x m = alone (an-escape x) (marked-as m (λ n h. between-one c n))
+  single-byte {c = c} x m = alone (an-escape x) (grown-as m (λ n h. between-one c n))
 
   literal-of : {j : ℕ} {x : Leaf} → Single s i j x → (b ≡ code "." → ⊥) → (b ≡ code "[" → ⊥) → (b ≡ code "\\" → ⊥) → literal b ≡ true
   literal-of (a-dot h) d c e = absurd (d (q ∙ h))
@@ -74,9 +74,9 @@ module _ {s : List ℕ} {i b : ℕ} (p : Some Single s i) (q : b ≡ byte s i) w
   literal-of (an-escape x) d c e = absurd (e (q ∙ escape-head x))
   literal-of (a-class h l k) d c e = absurd (c (q ∙ h))
 
-  pub single-literal : {k : ℕ} {m m′ : List ℕ} → (b ≡ code "." → ⊥) → (b ≡ code "[" → ⊥) → (b ≡ code "\\" → ⊥) → Marked k (between b b) m m′ → Took Single setOf s i k m m′ (i + 1)
+  pub single-literal : {k : ℕ} {m m′ : List ℕ} → (b ≡ code "." → ⊥) → (b ≡ code "[" → ⊥) → (b ≡ code "\\" → ⊥) → SetGrown k (between b b) m m′ → Took Single setOf s i k m m′ (i + 1)
   unfolding setOf
-  single-literal d c e m = let h = rw q at (literal-of (p .reads) d c e) in alone (a-literal h) (marked-as m (λ n h. between-one b n ∙ rw q refl))
+  single-literal d c e m = let h = rw q at (literal-of (p .reads) d c e) in alone (a-literal h) (grown-as m (λ n h. between-one b n ∙ rw q refl))
 
   -- a literal is a byte
   pub literal-byte : (b ≡ code "." → ⊥) → (b ≡ code "[" → ⊥) → (b ≡ code "\\" → ⊥) → b ≡ byteValues → ⊥

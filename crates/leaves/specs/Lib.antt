@@ -1,4 +1,4 @@
 -- The bytes that a position holds
-pub mod MarkedBytes
+pub mod GrownSets
 -- What can be read at a place
 pub mod ReadAt

@@ -3,7 +3,7 @@
 --   Some R s i: at the place i of s, which is not LONG, something can be read by the rule R
 --   Backslash s i r: r is the byte after a backslash at i, 256 if there is none
 --   WholeItem, WholeItems: an item of a class that no dash goes on with; the items of a class up to its `]`
---   Took R set s i k m m′ r: whatever is read by R at i ends at r, and its bytes are marked as those of the position that has k others before it
+--   Took R set s i k m m′ r: whatever is read by R at i ends at r, and its bytes are put into the set of the position that has k others before it
 use Prim.Native.Nat.{ℕ, _+_, _<_, _≤_}
 use Prim.Native.Char.{code}
 use mathlib.Core.Path.{_≡_}
@@ -13,7 +13,7 @@ use Rattle.scope.specs.Bytes.{ByteSet, byte}
 use Rattle.scope.specs.Text.Grammar.{OneItem, Items}
 use Rattle.scope.specs.Limits.{byteValues, patternLimit}
 use Rattle.scope.specs.Text.Tree.{Item}
-use Rattle.leaves.specs.MarkedBytes.{Marked}
+use Rattle.leaves.specs.GrownSets.{SetGrown}
 
 pub record Some {A : Type 0} (R : List ℕ → ℕ → ℕ → A → Type 0) (s : List ℕ) (i : ℕ) : Type 0 where
   pub short : length s ≤ patternLimit
@@ -35,4 +35,4 @@ WholeItems s i j l = Items s i j l × (byte s j ≡ code "]")
 pub record Took {A : Type 0} (R : List ℕ → ℕ → ℕ → A → Type 0) (set : A → ByteSet) (s : List ℕ) (i k : ℕ) (m m′ : List ℕ) (r : ℕ) : Type 0 where
   pub on : i < r
   pub inside : r ≤ length s
-  pub says : (j : ℕ) (x : A) → R s i j x → (r ≡ j) × Marked k (set x) m m′
+  pub says : (j : ℕ) (x : A) → R s i j x → (r ≡ j) × SetGrown k (set x) m m′

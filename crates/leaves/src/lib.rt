@@ -1,5 +1,5 @@
-// What stands at one position: a literal, a byte's escape, the dot or a class. Its bytes are marked in a lent buffer.
-mod marks;
+// What stands at one position: a literal, a byte's escape, the dot or a class. Its bytes are put into its set, in a lent buffer.
+mod byte_set;
 pub mod text;
 
 ghost use Prim.Native.Nat.{_<_, _≤_};
@@ -8,9 +8,9 @@ ghost use Rattle.scope.specs.Text.Grammar.{Single};
 ghost use Rattle.scope.specs.Limits.{positionLimit};
 ghost use Rattle.scope.specs.Text.Tree.{dotSet, itemSet, itemsSet, setOf};
 ghost use Rattle.sets.specs.Layout.{byteSets};
-ghost use Rattle.leaves.specs.MarkedBytes.{Marked};
+ghost use Rattle.leaves.specs.GrownSets.{SetGrown};
 ghost use Rattle.leaves.specs.ReadAt.{Some, WholeItem, WholeItems, Took};
-use marks::mark;
+use byte_set::insert;
 use text::BACKSLASH;
 use text::CLASS_CLOSE;
 use text::CLASS_OPEN;
@@ -20,16 +20,16 @@ use text::byte_at;
 use text::class_byte;
 use text::escape;
 
-// Marks the bytes of the dot: all but the line end, 0x0A.
-fn mark_dot(bytes: &mut [u8], k: usize)
+// Puts in the bytes of the dot: all but the line end, 0x0A.
+fn insert_dot(bytes: &mut [u8], k: usize)
     requires { ⌜ (k < positionLimit) × (byteSets ≤ length (now bytes)) ⌝ }
-    ensures { λ _. ⌜ Marked k dotSet (now (bytes .entry)) (now (bytes .exit)) ⌝ }
+    ensures { λ _. ⌜ SetGrown k dotSet (now (bytes .entry)) (now (bytes .exit)) ⌝ }
 {
-    mark(bytes, k, 0x00, 0x09);
-    mark(bytes, k, 0x0B, 0xFF);
+    insert(bytes, k, 0x00, 0x09);
+    insert(bytes, k, 0x0B, 0xFF);
 }
 
-// Marks the bytes of one item of a class; the place after it.
+// Puts in the bytes of one item of a class; the place after it.
 fn item(text: &[u8], at: usize, k: usize, bytes: &mut [u8]) -> usize
     requires { ⌜ Some WholeItem (now text) at ⌝ }
     requires { ⌜ (k < positionLimit) × (byteSets ≤ length (now bytes)) ⌝ }
@@ -39,15 +39,15 @@ fn item(text: &[u8], at: usize, k: usize, bytes: &mut [u8]) -> usize
     let next = low.next;
     if byte_at(text, next) == DASH {
         let high = class_byte(text, next + 1);
-        mark(bytes, k, low.byte, high.byte);
+        insert(bytes, k, low.byte, high.byte);
         high.next
     } else {
-        mark(bytes, k, low.byte, low.byte);
+        insert(bytes, k, low.byte, low.byte);
         next
     }
 }
 
-// Marks the bytes of the items of a class; the place of the `]` after them.
+// Puts in the bytes of the items of a class; the place of the `]` after them.
 fn items(text: &[u8], at: usize, k: usize, bytes: &mut [u8]) -> usize
     requires { ⌜ Some WholeItems (now text) at ⌝ }
     requires { ⌜ (k < positionLimit) × (byteSets ≤ length (now bytes)) ⌝ }
@@ -60,7 +60,7 @@ fn items(text: &[u8], at: usize, k: usize, bytes: &mut [u8]) -> usize
     next
 }
 
-// Marks the bytes of an atom that is one position; the place after it.
+// Puts in the bytes of an atom that is one position; the place after it.
 pub fn single(text: &[u8], at: usize, k: usize, bytes: &mut [u8]) -> usize
     requires { ⌜ Some Single (now text) at ⌝ }
     requires { ⌜ (k < positionLimit) × (byteSets ≤ length (now bytes)) ⌝ }
@@ -68,7 +68,7 @@ pub fn single(text: &[u8], at: usize, k: usize, bytes: &mut [u8]) -> usize
 {
     let b = byte_at(text, at);
     if b == DOT {
-        mark_dot(bytes, k);
+        insert_dot(bytes, k);
         return at + 1;
     }
     if b == CLASS_OPEN {
@@ -76,10 +76,10 @@ pub fn single(text: &[u8], at: usize, k: usize, bytes: &mut [u8]) -> usize
     }
     if b == BACKSLASH {
         let e = escape(text, at);
-        mark(bytes, k, e.byte, e.byte);
+        insert(bytes, k, e.byte, e.byte);
         return e.next;
     }
     let c = b as u8;
-    mark(bytes, k, c, c);
+    insert(bytes, k, c, c);
     at + 1
 }

@@ -14,8 +14,6 @@ pub const CLOSE: usize = b')' as usize;
 
 pub const BAR: usize = b'|' as usize;
 
-pub const STAR: usize = b'*' as usize;
-
 pub const DOT: usize = b'.' as usize;
 
 pub const BACKSLASH: usize = b'\\' as usize;

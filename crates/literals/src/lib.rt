@@ -1,7 +1,14 @@
 // The sets of bytes that the pattern language names, and the value of a hex digit. A test has no branch.
 ghost use mathlib.Core.Path.{_≡_};
 ghost use Rattle.scope.specs.Bytes.{between};
-ghost use Rattle.scope.specs.Text.Grammar.{twelve, literal, escapable, classLiteral, hex};
+ghost use Rattle.scope.specs.Text.Grammar.{twelve, literal, escapable, classLiteral, isMark, hex};
+
+// The marks.
+pub const STAR: usize = b'*' as usize;
+
+pub const PLUS: usize = b'+' as usize;
+
+pub const OPTION: usize = b'?' as usize;
 
 // Whether b is one of low to high.
 fn is_in(b: u8, low: u8, high: u8) -> bool
@@ -36,6 +43,13 @@ pub fn is_bare(b: u8) -> bool
     ensures { λ r. ⌜ r ≡ classLiteral b ⌝ }
 {
     is_in(b, b' ', b',') | is_in(b, b'.', b'Z') | is_in(b, b'_', b'~')
+}
+
+// Whether b is a mark: `*`, `+` or `?`. What is read past the end of a text is a number, but no byte.
+pub fn is_mark(b: usize) -> bool
+    ensures { λ r. ⌜ r ≡ isMark b ⌝ }
+{
+    (b == STAR) | (b == PLUS) | (b == OPTION)
 }
 
 // The value of a hex digit; 16 if b is none.

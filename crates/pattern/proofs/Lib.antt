@@ -1,7 +1,5 @@
 -- The laws behind the readers' proofs, one file a notion.
 
--- The text: first bytes
-pub mod AtomBegins
 -- Readings from left to right; parentheses, the loops, the whole text
 pub mod Tails
 pub mod Groups

@@ -18,13 +18,14 @@ use Rattle.scope.specs.Machines.Room.{machine}
 use Rattle.scope.specs.Operations.Compile.{Compiles}
 use Rattle.scope.specs.Positions.Bits.{has, move}
 use Rattle.scope.specs.Positions.Sets.{At, Path, to}
-use Rattle.scope.specs.Text.Grammar.{literal, Single, a-dot, a-literal, an-escape, a-class, Level, Reads, single, no-byte, no-word, in-group, one-atom, one-star, one-factor, next-factor, one-branch, next-branch}
+use Rattle.scope.specs.Text.Grammar.{literal, Single, a-dot, a-literal, an-escape, a-class, Level, Reads, single, no-byte, no-word, in-group, one-atom, one-mark, one-factor, next-factor, one-branch, next-branch}
 use Rattle.scope.specs.Text.Judge.{Pattern}
 use Rattle.scope.specs.Text.Re.{Words, size}
 use Rattle.scope.specs.Text.Tree.{Leaf, Tree, dotSet, setOf, expr, places}
 use Rattle.scope.proofs.Counting.Tests.{equals}
 use Rattle.scope.proofs.Operations.Compile.{compiled-exact}
 use Rattle.scope.proofs.Positions.Glushkov.{PositionOf, at-in, glushkov}
+use Rattle.scope.proofs.Positions.Marked.{at-marked}
 use Rattle.scope.proofs.Positions.Moves.{move-is}
 use Rattle.scope.proofs.Text.Grammar.{other}
 use Rattle.pattern.specs.Named.{Names, in-class, as-escape, TakenAt}
@@ -68,7 +69,7 @@ module _ {s : List ℕ} where
   held-named (no-word h e) k p a = absurd a
   held-named (in-group h r e) k p a = held-named r k p a
   held-named (one-atom r) k p a = held-named r k p a
-  held-named (one-star r h) k p a = held-named r k p a
+  held-named (one-mark {t = t} m r h) k p a = held-named r k p (at-marked m (expr t) k p 0x0A a)
   held-named (one-factor r) k p a = held-named r k p a
   held-named (next-factor {t = t} {u = u} r x) k p a = part-named t u k p (λ b. held-named r k p b) (λ b. held-named x (k + size (expr t)) p b) a
   held-named (one-branch r) k p a = held-named r k p a

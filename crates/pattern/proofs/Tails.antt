@@ -1,5 +1,6 @@
 -- A reading from its first part on. The first part is found by going down the grammar's left recursion; what comes after it is put to the end of the tail. A
 -- byte that ends an l ends its last part, and a part that follows another one begins with a byte that ends that one.
+--   not-stop: what is read begins with no byte that ends a branch
 --   BeginsWith lo l s i u j: an l, with the tree u, up to j, begins with a part of the level lo
 --   first-factor, first-branch, first-expr: each has one
 --   ready-atom, ready-factor, ready-branch: which can be read, too
@@ -7,27 +8,41 @@
 use Prim.Native.Nat.{ℕ, _+_, _≤_}
 use Prim.Native.Char.{code}
 use mathlib.Core.Path.{_≡_, refl, sym, subst}
-use mathlib.Core.Bool.{true}
+use mathlib.Core.Bool.{true, false}
 use mathlib.Core.List.{List}
+use mathlib.Core.Logic.{inl, inr}
 use native.Mathlib.Omega.{arith}
 use lib.ListN.{length}
 use Rattle.scope.specs.Bytes.{byte}
-use Rattle.scope.specs.Text.Grammar.{Level, atoms, factors, branches, exprs, Reads, one-atom, one-star, one-factor, next-factor, one-branch, next-branch}
-use Rattle.scope.specs.Limits.{patternLimit, positionLimit}
+use Rattle.scope.specs.Text.Grammar.{isMark, markByte, Level, atoms, factors, branches, exprs, Reads, one-atom, one-mark, one-factor, next-factor, one-branch, next-branch}
+use Rattle.scope.specs.Limits.{byteValues, patternLimit, positionLimit}
 use Rattle.scope.specs.Text.Re.{size}
-use Rattle.scope.specs.Text.Tree.{Tree, starred, beside, either, expr}
+use Rattle.scope.specs.Text.Tree.{Mark, Tree, marked, beside, either, expr}
+use Rattle.scope.proofs.Counting.Tests.{or, equals}
 use Rattle.scope.proofs.Text.Grammar.{other, reads-on}
+use Rattle.scope.proofs.Text.Marks.{mark-other}
+use Rattle.scope.proofs.Text.Begins.{startsAtom, reads-begins, not-mark}
+use Rattle.scope.proofs.Positions.Marked.{size-marked}
 use Rattle.fragments.specs.declared.Fragment.{Fragment}
-use Rattle.factors.specs.Tails.{closesExpr, stops, WholeLevel, Tail, done, a-star, a-factor, a-branch}
+use Rattle.factors.specs.Tails.{closesExpr, stops, WholeLevel, Tail, done, a-mark, a-factor, a-branch}
 use Rattle.factors.specs.Answer.{Readable, Answer, Going}
-use Rattle.pattern.proofs.AtomBegins.{not-star}
 use Rattle.factors.proofs.ReadsIn.{reads-in}
 
 -- ---- what ends what
 
-pub stop-star : {b : ℕ} → stops b ≡ true → b ≡ code "*" → ⊥
+-- what is read begins with no byte that ends a branch
+pub not-stop : {s : List ℕ} {l : Level} {i j : ℕ} {t : Tree} → Reads s l i j t → stops (byte s i) ≡ true → ⊥
+unfolding startsAtom stops
+not-stop {s} {i = i} r h =
+    elim (or (or (equals (byte s i) (code ")")) (equals (byte s i) byteValues)) (equals (byte s i) (code "|")) .sound h) [
+      | inl (inl e) ↦ other startsAtom (reads-begins r) refl (sym e)
+      | inl (inr e) ↦ other startsAtom (reads-begins r) refl (sym e)
+      | inr e ↦ other startsAtom (reads-begins r) refl (sym e)
+    ]
+
+stop-unmarked : (b : ℕ) → stops b ≡ true → isMark b ≡ false
 unfolding stops
-stop-star h = other stops h refl
+stop-unmarked b h = mark-other stops h refl refl refl
 
 pub bar-stops : {b : ℕ} → b ≡ code "|" → stops b ≡ true
 unfolding stops
@@ -46,9 +61,9 @@ pub record BeginsWith (lo l : Level) (s : List ℕ) (i : ℕ) (u : Tree) (j : �
   pub tail : Tail s l tree end u j
 
 module _ {s : List ℕ} where
-  then-star : {t u : Tree} {j k : ℕ} → Tail s factors t j u k → byte s k ≡ code "*" → Tail s factors t j (starred u) (k + 1)
-  then-star done h = a-star h done
-  then-star (a-star g r) h = a-star g (then-star r h)
+  then-mark : {t u : Tree} {j k : ℕ} (m : Mark) → Tail s factors t j u k → byte s k ≡ markByte m → Tail s factors t j (marked m u) (k + 1)
+  then-mark m done h = a-mark m h done
+  then-mark m (a-mark n g r) h = a-mark n g (then-mark m r h)
 
   then-factor : {t u f : Tree} {j k m : ℕ} → Tail s branches t j u k → WholeLevel factors s k m f → Tail s branches t j (beside u f) m
   then-factor done h = a-factor h done
@@ -60,14 +75,14 @@ module _ {s : List ℕ} where
 
   pub first-factor : {i j : ℕ} {t : Tree} → Reads s factors i j t → BeginsWith atoms factors s i t j
   first-factor (one-atom r) = record { end = _; tree = _; head = (r, tt); tail = done }
-  first-factor (one-star r h) = let a = first-factor r in record { end = a .end; tree = a .tree; head = a .head; tail = then-star (a .tail) h }
+  first-factor (one-mark m r h) = let a = first-factor r in record { end = a .end; tree = a .tree; head = a .head; tail = then-mark m (a .tail) h }
 
-  factors-of : {i j : ℕ} {t : Tree} → Reads s branches i j t → (byte s j ≡ code "*" → ⊥) → BeginsWith factors branches s i t j
+  factors-of : {i j : ℕ} {t : Tree} → Reads s branches i j t → isMark (byte s j) ≡ false → BeginsWith factors branches s i t j
   factors-of (one-factor r) e = record { end = _; tree = _; head = (r, e); tail = done }
-  factors-of (next-factor r q) e = let a = factors-of r (not-star q) in record { end = a .end; tree = a .tree; head = a .head; tail = then-factor (a .tail) (q, e) }
+  factors-of (next-factor r q) e = let a = factors-of r (not-mark q) in record { end = a .end; tree = a .tree; head = a .head; tail = then-factor (a .tail) (q, e) }
 
   pub first-branch : {i j : ℕ} {t : Tree} → WholeLevel branches s i j t → BeginsWith factors branches s i t j
-  first-branch (r, e) = factors-of r (stop-star e)
+  first-branch (r, e) = factors-of r (stop-unmarked _ e)
 
   branches-of : {i j : ℕ} {t : Tree} → Reads s exprs i j t → stops (byte s j) ≡ true → BeginsWith branches exprs s i t j
   branches-of (one-branch r) e = record { end = _; tree = _; head = (r, e); tail = done }
@@ -82,7 +97,7 @@ module _ {s : List ℕ} where
   pub tail-size : {l : Level} {t u : Tree} {j k : ℕ} → Tail s l t j u k → size (expr t) ≤ size (expr u)
   unfolding expr
   tail-size done = omega arith
-  tail-size (a-star h r) = tail-size r
+  tail-size {t = t} (a-mark m h r) = omega (arith, tail-size r, size-marked m (expr t))
   tail-size (a-factor h r) = omega (arith, tail-size r)
   tail-size (a-branch h g r) = omega (arith, tail-size r)
 

@@ -2,7 +2,7 @@
 -- makes it a longer one, and when none is left it is the whole.
 --   is-on, is-off: what the test of a branch's loop says
 --   factor-last, branch-last: a tail that does not go on is over
---   factor-fit, factor-found: the stars after an atom
+--   factor-fit, factor-found: the marks after an atom
 --   going, going-small, going-found: what there is after some turns; its count; what it is when none is left
 --   factor-ready, factor-turn: one more factor; branch-ready, branch-turn: one more branch
 use Prim.Native.Nat.{ℕ, _+_, _<_, _≤_}
@@ -25,12 +25,11 @@ use Rattle.fragments.specs.declared.Fragment.{Fragment}
 use Rattle.factors.specs.Tails.{closesExpr, stops, EndsLevel, WholeLevel, Tail, done, a-factor, a-branch}
 use Rattle.sets.specs.Layout.{wordSets}
 use Rattle.fragments.specs.Shapes.{Linked, Beside, Either}
-use Rattle.factors.specs.Answer.{Fit, Readable, ReadTree, Answer, Going, Carried, Starred}
-use Rattle.pattern.proofs.AtomBegins.{not-stop}
+use Rattle.factors.specs.Answer.{Fit, Readable, ReadTree, Answer, Going, Carried, WithMarks}
 use Rattle.factors.proofs.Rights.{right-within, right-beside, right-either}
-use Rattle.pattern.proofs.Tails.{BeginsWith, first-factor, tail-size, ready, begun}
+use Rattle.pattern.proofs.Tails.{not-stop, BeginsWith, first-factor, tail-size, ready, begun}
 use Rattle.factors.proofs.Atoms.{answer}
-use Rattle.factors.proofs.Carried.{star-last}
+use Rattle.factors.proofs.Carried.{mark-last}
 
 pub is-on : (b : ℕ) {r : Bool} {n : ℕ} → n ≡ b → r ≡ not (stops n) → r ≡ true → stops b ≡ false
 is-on b e h t = elim (which (stops b)) [ inl z ↦ absurd (false≢true (rw (e, z) at (sym h ∙ t))) | inr z ↦ z ]
@@ -79,12 +78,12 @@ module _ {s : List ℕ} where
     going-small q b = omega (arith, q .right .counts, tail-size (q .tail))
 
   module _ {k i : ℕ} {y y′ w w′ : List ℕ} {g : Fragment} (p : Readable factors k s i) (a : Answer atoms s i k y y′ w w′ g) where
-    -- the stars after an atom can be read, and what is read then is the factor
+    -- the marks after an atom can be read, and what is read then is the factor
     pub factor-fit : {w″ : List ℕ} → wordSets ≤ length w″ → Fit s w″ g
     factor-fit h = let q = begun a (first-factor (p .whole .0)) in record { short = p .short; inside = a .inside; words = h; few = going-small q (p .brief); within = right-within (q .right) }
 
-    pub factor-found : {w″ : List ℕ} {r : Fragment} → Starred s w′ g w″ r → Answer factors s i k y y′ w w″ r
-    factor-found t = answer p (λ j u v. let q = t .says _ .says k y w u j (v .1) (begun a (first-factor (v .0))) in found q (star-last (q .tail) (t .ends)))
+    pub factor-found : {w″ : List ℕ} {r : Fragment} → WithMarks s w′ g w″ r → Answer factors s i k y y′ w w″ r
+    factor-found t = answer p (λ j u v. let q = t .says _ .says k y w u j (v .1) (begun a (first-factor (v .0))) in found q (mark-last (q .tail) (t .ends)))
 
   -- ---- factors and branches
 

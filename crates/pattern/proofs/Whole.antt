@@ -3,7 +3,7 @@
 --   ready-text: a judged text can be read
 --   reading: what was read of it is what is promised
 use Prim.Native.Nat.{ℕ, _+_, _*_, _/_, _%_}
-use mathlib.Core.Path.{_≡_, refl, ap, _∙_}
+use mathlib.Core.Path.{_≡_, refl, sym, ap, _∙_}
 use mathlib.Core.Bool.{_||_}
 use mathlib.Core.List.{List}
 use native.Mathlib.Nat.{zero-add}
@@ -15,8 +15,9 @@ use Rattle.scope.specs.Text.Grammar.{exprs}
 use Rattle.scope.specs.Text.Judge.{Pattern}
 use Rattle.scope.specs.Limits.{byteValues, setWords}
 use Rattle.scope.specs.Text.Re.{size}
-use Rattle.scope.specs.Text.Tree.{Tree, nothing, empty, position, group, starred, beside, either, expr, places}
+use Rattle.scope.specs.Text.Tree.{Tree, nothing, empty, position, group, marked, beside, either, expr, places}
 use Rattle.scope.proofs.Positions.Bits.{has-zero}
+use Rattle.scope.proofs.Positions.Marked.{size-marked}
 use Rattle.sets.specs.Value.{setValue}
 use Rattle.sets.proofs.Words.{set-none}
 use Rattle.pattern.specs.declared.Shape.{Shape}
@@ -34,7 +35,7 @@ places-size nothing = refl
 places-size empty = refl
 places-size (position i x) = refl
 places-size (group i t) = places-size t
-places-size (starred t) = places-size t
+places-size (marked m t) = places-size t ∙ sym (size-marked m (expr t))
 places-size (beside t u) = simp length-append (omega (arith, places-size t, places-size u))
 places-size (either t u) = simp length-append (omega (arith, places-size t, places-size u))
 

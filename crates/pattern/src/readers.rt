@@ -7,7 +7,7 @@ ghost use Rattle.factors.specs.Tails.{stops};
 ghost use Rattle.factors.specs.Answer.{Readable, Answer};
 ghost use Rattle.pattern.specs.PatternSets.{Rooms};
 use factors::leaf;
-use factors::stars;
+use factors::marks;
 use fragments::Fragment;
 use fragments::beside;
 use fragments::either;
@@ -39,13 +39,13 @@ fn atom(text: &[u8], at: usize, count: usize, bytes: &mut [u8], words: &mut [u64
     }
 }
 
-// A factor: an atom and its stars.
+// A factor: an atom and its marks.
 fn factor(text: &[u8], at: usize, count: usize, bytes: &mut [u8], words: &mut [u64]) -> Fragment
     requires { ⌜ Readable factors count (now text) at × Rooms (now bytes) (now words) ⌝ }
     ensures { λ r. ⌜ Answer factors (now (text .entry)) at count (now (bytes .entry)) (now (bytes .exit)) (now (words .entry)) (now (words .exit)) r ⌝ }
 {
     let part = atom(text, at, count, bytes, words);
-    stars(text, part, words)
+    marks(text, part, words)
 }
 
 // A branch: factors side by side.

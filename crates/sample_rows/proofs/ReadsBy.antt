@@ -7,8 +7,8 @@ use mathlib.Core.List.{List, [], _∷_}
 use lib.Dec.{eqb}
 use lib.ListN.{length}
 use Rattle.scope.specs.Bytes.{byte}
-use Rattle.scope.specs.Text.Tree.{Item, lone, range, Leaf, dot, letter, class, Tree, nothing, empty, position, group, starred, beside, either}
-use Rattle.scope.specs.Text.Grammar.{literal, classLiteral, ClassByte, bare, OneItem, one-byte, low-high, Items, last-item, more-items, Single, a-dot, a-literal, a-class, Level, atoms, factors, branches, exprs, Reads, single, no-byte, no-word, in-group, one-atom, one-star, one-factor, next-factor, one-branch, next-branch}
+use Rattle.scope.specs.Text.Tree.{Item, lone, range, Leaf, dot, letter, class, Tree, nothing, empty, position, group, marked, beside, either}
+use Rattle.scope.specs.Text.Grammar.{literal, classLiteral, markByte, ClassByte, bare, OneItem, one-byte, low-high, Items, last-item, more-items, Single, a-dot, a-literal, a-class, Level, atoms, factors, branches, exprs, Reads, single, no-byte, no-word, in-group, one-atom, one-mark, one-factor, next-factor, one-branch, next-branch}
 use Rattle.scope.specs.Text.Judge.{Pattern}
 use Rattle.scope.proofs.Counting.Tests.{equals, itself, pair}
 
@@ -32,7 +32,7 @@ end nothing i = i + 2
 end empty i = i + 2
 end (position p x) i = leafEnd x i
 end (group p t) i = end t (i + 1) + 1
-end (starred t) i = end t i + 1
+end (marked m t) i = end t i + 1
 end (beside t u) i = end u (end t i)
 end (either t u) i = end u (end t i + 1)
 
@@ -69,10 +69,10 @@ module _ (s : List ℕ) where
   isTree l empty i = is i 92 && is (i + 1) 101
   isTree l (position p x) i = eqb p i && isLeaf x i
   isTree l (group p t) i = eqb p i && (is i 40 && (isTree exprs t (i + 1) && is (end t (i + 1)) 41))
-  isTree atoms (starred t) i = false
-  isTree factors (starred t) i = isTree factors t i && is (end t i) 42
-  isTree branches (starred t) i = isTree factors t i && is (end t i) 42
-  isTree exprs (starred t) i = isTree factors t i && is (end t i) 42
+  isTree atoms (marked m t) i = false
+  isTree factors (marked m t) i = isTree factors t i && is (end t i) (markByte m)
+  isTree branches (marked m t) i = isTree factors t i && is (end t i) (markByte m)
+  isTree exprs (marked m t) i = isTree factors t i && is (end t i) (markByte m)
   isTree atoms (beside t u) i = false
   isTree factors (beside t u) i = false
   isTree branches (beside t u) i = isTree branches t i && isTree factors u (end t i)
@@ -127,10 +127,10 @@ module _ (s : List ℕ) where
   tree-by l (group p t) i e =
       let (a, b) = pair (equals p i .sound) (pair (is-by i 40) (pair (tree-by exprs t (i + 1)) (is-by (end t (i + 1)) 41))) e in
       lift l (subst (λ (n : ℕ). Reads s atoms i (end t (i + 1) + 1) (group n t)) a (in-group (b .0) (b .1 .0) (b .1 .1)))
-  tree-by atoms (starred t) i e = absurd (false≢true e)
-  tree-by factors (starred t) i e = let (a, b) = pair (tree-by factors t i) (is-by (end t i) 42) e in one-star a b
-  tree-by branches (starred t) i e = let (a, b) = pair (tree-by factors t i) (is-by (end t i) 42) e in one-factor (one-star a b)
-  tree-by exprs (starred t) i e = let (a, b) = pair (tree-by factors t i) (is-by (end t i) 42) e in one-branch (one-factor (one-star a b))
+  tree-by atoms (marked m t) i e = absurd (false≢true e)
+  tree-by factors (marked m t) i e = let (a, b) = pair (tree-by factors t i) (is-by (end t i) (markByte m)) e in one-mark m a b
+  tree-by branches (marked m t) i e = let (a, b) = pair (tree-by factors t i) (is-by (end t i) (markByte m)) e in one-factor (one-mark m a b)
+  tree-by exprs (marked m t) i e = let (a, b) = pair (tree-by factors t i) (is-by (end t i) (markByte m)) e in one-branch (one-factor (one-mark m a b))
   tree-by atoms (beside t u) i e = absurd (false≢true e)
   tree-by factors (beside t u) i e = absurd (false≢true e)
   tree-by branches (beside t u) i e = let (a, b) = pair (tree-by branches t i) (tree-by factors u (end t i)) e in next-factor a b

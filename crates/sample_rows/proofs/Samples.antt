@@ -14,8 +14,8 @@ use Rattle.scope.specs.Limits.{byteValues, wordBytes}
 use Rattle.scope.specs.Bytes.{ascii}
 use Rattle.scope.specs.Text.Re.{Re, size}
 use Rattle.scope.specs.Positions.Bits.{null, first, last, follow}
-use Rattle.scope.specs.Text.Tree.{lone, range, dot, letter, class, Tree, nothing, empty, position, group, starred, beside, either, expr, falling}
-use Rattle.scope.specs.Text.Grammar.{literal, escapable, classLiteral, hex}
+use Rattle.scope.specs.Text.Tree.{lone, range, dot, letter, class, many, some, maybe, Tree, nothing, empty, position, group, marked, beside, either, expr, falling}
+use Rattle.scope.specs.Text.Grammar.{literal, escapable, classLiteral, isMark, hex}
 use Rattle.scope.specs.Text.Judge.{SyntaxAt, Beyond}
 use Rattle.scope.specs.Answers.{SAME, SEPARATED}
 use Rattle.scope.specs.Machines.Machine.{Machine, Equal, Closed}
@@ -32,7 +32,7 @@ use Rattle.scope.proofs.Counting.Tests.{all, all-is, any, any-is, and, or, itse
 use Rattle.scope.proofs.Operations.Buffers.{written-none}
 use Rattle.scope.proofs.Packing.PackedForm.{form-bits}
 use Rattle.sample_rows.proofs.ReadsBy.{isPattern, reads-by}
-use Rattle.scope.proofs.Text.Places.{Verdict, legal, syntax, verdict, VerdictSays, judges}
+use Rattle.modes.proofs.Places.{Verdict, legal, syntax, verdict, VerdictSays, judges}
 use Rattle.scope.proofs.Machines.SameMoves.{agree-aside, agree-rounds, agree-equal, agree-separation}
 use Rattle.scope.proofs.Machines.Aside.{aside-closed}
 use Rattle.scope.proofs.Machines.Separate.{equal-by, spelled-separation}
@@ -208,7 +208,7 @@ pub record Hint : Type 0 where
   pub kinds : List ℕ
 
 unfoldable pub isRow : Row → Hint → Bool
-unfolding isPattern expr falling isSets isCompiled bytesIn isMatched isCompared literal escapable classLiteral hex isAt isFirst printed sameList
+unfolding isPattern expr falling isSets isCompiled bytesIn isMatched isCompared literal escapable classLiteral isMark hex isAt isFirst printed sameList
 isRow (Row.sets s n f l w) h = isPattern s (h .left .tree) && isSets (expr (h .left .tree)) n f l w
 isRow (Row.machine g) h = isCompiled g (h .left)
 isRow (Row.packed g n) h = isCompiled g (h .left) && eqb n (bytesIn g)
@@ -254,6 +254,9 @@ each-by (r ∷ l) (h ∷ k) e = pair (row-by r h) (each-by l k) e
 -- bytes that stand for themselves at a place
 abbrev at : ℕ → String → Tree
 at i b = position i (letter (getD (ascii b) 0 0))
+
+abbrev starred : Tree → Tree
+starred t = marked many t
 
 abbrev oneOf : ℕ → String → Tree
 oneOf i s = position i (class (map lone (ascii s)))
@@ -327,6 +330,26 @@ forOnly b = record {
   homes = ascii b ∷ [];
 }
 
+-- one or more a, by the tree, its reached sets and the state of each
+abbrev forOneOrMore : Tree → List ℕ → List ℕ → Help
+forOneOrMore t sets states = record {
+  tree = t;
+  kinds = 0 ∷ ascii "a";
+  sets = sets;
+  states = states;
+  ways = [] ∷ others ∷ ascii "a" ∷ [];
+  words = [] ∷ ascii "a" ∷ [];
+  lost = 1 ∷ [];
+  homes = ascii "a" ∷ [];
+}
+
+-- a+, and aa*
+abbrev forPlus : Help
+forPlus = forOneOrMore (marked some (at 0 "a")) (1 ∷ 0 ∷ positions (1 ∷ []) ∷ []) (0 ∷ 1 ∷ 2 ∷ [])
+
+abbrev forTwice : Help
+forTwice = forOneOrMore (beside (at 0 "a") (starred (at 1 "a"))) (1 ∷ 0 ∷ positions (1 ∷ []) ∷ positions (2 ∷ []) ∷ []) (0 ∷ 1 ∷ 2 ∷ 2 ∷ [])
+
 abbrev forMixed : Tree → Help
 forMixed t = record {
   tree = t;
@@ -338,6 +361,10 @@ forMixed t = record {
   lost = 1 ∷ [];
   homes = [];
 }
+
+-- (ab?)+: the tree is all that its row needs
+abbrev forOption : Help
+forOption = forMixed (marked some (group 0 (beside (at 1 "a") (marked maybe (at 2 "b")))))
 
 -- (a*|b*)*, and (a|b)*
 abbrev stars : Help
@@ -390,6 +417,11 @@ hints =
     ∷ alone forRemark
     ∷ both (forOnly "a") (forOnly "b")
     ∷ both stars letters
+    ∷ alone forOption
+    ∷ alone forPlus
+    ∷ both forPlus forTwice
+    ∷ alone forNoWord
+    ∷ alone forNoWord
     ∷ alone forNoWord
     ∷ alone forNoWord
     ∷ alone forNoWord

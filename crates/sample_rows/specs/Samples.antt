@@ -1,4 +1,4 @@
--- 01, "Sample patterns and rulings": the rows marked P, the places of SYNTAX and RANGE, and the program's example; a row of 02's C-16; what each says of the definitions.
+-- 01, "Sample patterns and rulings": the rows marked P, the places of SYNTAX and RANGE, and the program's example; rows of 02's C-11 and C-16; what each says of the definitions.
 --   Sample: a pattern with the machine that 01 gives for it
 --   sampleRoom g: the room of that machine, byte by byte
 --   Compiled g: compiling the pattern gives that room
@@ -141,6 +141,15 @@ starOfA = record {
   marks = 1 ∷ 0 ∷ [];
 }
 
+-- one or more a, however written: n 3, k 2
+abbrev pub oneOrMore : String → Sample
+oneOrMore s = record {
+  text = ascii s;
+  classes = ascii "a" ∷ [];
+  rows = (1 ∷ 2 ∷ []) ∷ (1 ∷ 1 ∷ []) ∷ (1 ∷ 2 ∷ []) ∷ [];
+  marks = 0 ∷ 0 ∷ 1 ∷ [];
+}
+
 -- n 5, k 3; rows (1,2,3), (1,1,1), (1,1,4), (1,4,1), (1,1,1); state 4 accepts
 abbrev pub parity : Sample
 parity = record {
@@ -218,12 +227,20 @@ rows =
     ∷ compared (only "a") (only "b") SEPARATED (ascii "a") 1
     -- P `(a*|b*)*` against `(a|b)*`: Same, rounds 0
     ∷ compared (mixed "(a*|b*)*") (mixed "(a|b)*") SAME [] 0
-    -- SYNTAX places: empty 0; `a|` 2; `(a` 2; `a)` 1; `a+` 1; `\xG1` 2; `[]` 1
+    -- 02, C-11: `(ab?)+` has two positions, First {1}, Last {1,2}, Follow {1,2}, {1}
+    ∷ sets (ascii "(ab?)+") false (1 ∷ []) (1 ∷ 2 ∷ []) ((1 ∷ 2 ∷ []) ∷ (1 ∷ []) ∷ [])
+    -- 02, C-11: `a+`: 200 bytes packed; `a+` against `aa*`: Same, rounds 1
+    ∷ packed (oneOrMore "a+") 200
+    ∷ compared (oneOrMore "a+") (oneOrMore "aa*") SAME [] 1
+    -- 02, C-11: a mark where an atom is awaited
+    ∷ syntax (ascii "+a") 0
+    ∷ syntax (ascii "a|?") 2
+    -- SYNTAX places: empty 0; `a|` 2; `(a` 2; `a)` 1; `a{` 1; `\xG1` 2; `[]` 1
     ∷ syntax [] 0
     ∷ syntax (ascii "a|") 2
     ∷ syntax (ascii "(a") 2
     ∷ syntax (ascii "a)") 1
-    ∷ syntax (ascii "a+") 1
+    ∷ syntax (ascii "a{") 1
     ∷ syntax (ascii "\\xG1") 2
     ∷ syntax (ascii "[]") 1
     -- RANGE: `[b-a]` 2

@@ -1,7 +1,6 @@
--- The grammar: one tree a text; the mode machine and the places of SYNTAX.
+-- The grammar: one tree a text, and one place of SYNTAX.
 pub mod Grammar
+pub mod Marks
+pub mod Begins
 pub mod Tree
 pub mod Judge
-pub mod Drives
-pub mod Builds
-pub mod Places

@@ -117,7 +117,7 @@ pub fn pattern(draw: &mut Draw) -> Vec<u8> {
         }
         _ => {
             let length = draw.below(16);
-            draw.text(length, b"ab()|*[]-\\x0e.4^+")
+            draw.text(length, b"ab()|*+?[]-\\x0e.4^{")
         }
     }
 }

@@ -1,7 +1,7 @@
 //! All strings up to a length over an alphabet, shortest first, then in the alphabet's order.
 
 /// Pattern bytes that together reach every rule of the grammar but hex.
-pub const PATTERN_BYTES: &[u8; 13] = b"ab|*()[]-\\e0.";
+pub const PATTERN_BYTES: &[u8; 15] = b"ab|*+?()[]-\\e0.";
 
 /// The iterator over all strings up to a length.
 #[derive(Clone, Debug)]

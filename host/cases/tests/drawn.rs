@@ -75,7 +75,7 @@ fn strings_come_in_order() {
     let all: Vec<Vec<u8>> = strings(b"ab", 2).collect();
     let wanted: [&[u8]; 7] = [b"", b"a", b"b", b"aa", b"ab", b"ba", b"bb"];
     assert_eq!(all, wanted);
-    assert_eq!(patterns(3).count(), 1 + 13 + 13 * 13 + 13 * 13 * 13);
+    assert_eq!(patterns(3).count(), 1 + 15 + 15 * 15 + 15 * 15 * 15);
     assert_eq!(strings(b"", 3).count(), 1);
 }
 

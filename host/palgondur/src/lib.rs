@@ -8,7 +8,7 @@
 //! ```
 //! use palgondur::{Comparison, Machine, Match};
 //!
-//! let field = Machine::compile("[0-9A-F][0-9A-F]*")?;
+//! let field = Machine::compile("[0-9A-F]+")?;
 //! assert_eq!(field.matches("4A"), Match::Accepted);
 //! assert_eq!(field.matches(""), Match::Unfinished);
 //! assert!(matches!(field.matches("4G7"), Match::Dead { place: 2, .. }));

@@ -49,7 +49,7 @@ pub enum Comparison {
 
 impl Machine {
     /// The smallest machine of a pattern's strings, or the refusal from LONG to STATES. A dot is any byte but the line end,
-    /// which a class or `\x0A` can name.
+    /// which a class or `\x0A` can name. After a factor `*` is any number of times, `+` once or more, `?` once or not at all.
     ///
     /// ```
     /// use palgondur::{Machine, Match, Refusal};
@@ -61,6 +61,10 @@ impl Machine {
     /// let remark = Machine::compile(".*")?;
     /// assert_eq!(remark.matches("one line"), Match::Accepted);
     /// assert!(matches!(remark.matches("two\nlines"), Match::Dead { place: 4, .. }));
+    ///
+    /// let serial = Machine::compile("[A-Z]+-?[0-9]+")?;
+    /// assert_eq!(serial.matches("PK-004711"), Match::Accepted);
+    /// assert_eq!(serial.matches("PK-"), Match::Unfinished);
     /// # Ok::<(), Refusal>(())
     /// ```
     pub fn compile(pattern: impl AsRef<[u8]>) -> Result<Machine, Refusal> {

@@ -198,6 +198,8 @@ fn patterns() -> Vec<Row> {
         ("33 nested parentheses", nested(33, "(", "a", ")"), 5),
         ("32 nested parentheses", nested(32, "(", "a", ")"), 0),
         ("32 nested stars", nested(32, "(", "a", ")*"), 0),
+        ("32 nested +", nested(32, "(", "a", ")+"), 0),
+        ("32 nested ?", nested(32, "(", "a", ")?"), 0),
         (
             "32 nested empty words",
             nested(32, "(\\e|", "\\e", "|\\e)*"),
@@ -220,6 +222,7 @@ fn patterns() -> Vec<Row> {
         ("64 letters", "a".repeat(64), 6),
         ("340 empty words", nested(340, "\\e|", "\\e", ""), 0),
         ("1,023 stars", "a".to_string() + &"*".repeat(1_023), 0),
+        ("1,023 marks", "a".to_string() + &"*+?".repeat(341), 0),
         ("1,022 items", nested(1, "[", &"a".repeat(1_022), "]"), 0),
         (
             "1,018 stars, a bad range",

@@ -1,12 +1,13 @@
 //! The language of a pattern by Brzozowski's derivatives.
 //!
 //! Expressions are kept once each, in a form that makes similar ones the same: unions are flat, sorted and without repetition,
-//! products lean to the right, and no word, the empty word and a star of a star are taken away where they can be.
+//! products lean to the right, and no word, the empty word and a star of a star are taken away where they can be. `F+` is kept as
+//! the product of F and its star, `F?` as the union of F and the empty word.
 
 use std::collections::HashMap;
 
 use crate::answer;
-use crate::text::{ByteSet, Node, Tree};
+use crate::text::{ByteSet, Mark, Node, Tree};
 
 #[derive(Clone, PartialEq, Eq, Hash, Debug)]
 enum Form {
@@ -58,7 +59,12 @@ impl Language {
                     .iter()
                     .rev()
                     .fold(EMPTY, |rest, &part| language.product(made[part], rest)),
-                Node::Star(part) => language.star(made[*part]),
+                Node::Marked(Mark::Star, part) => language.star(made[*part]),
+                Node::Marked(Mark::Plus, part) => {
+                    let more = language.star(made[*part]);
+                    language.product(made[*part], more)
+                }
+                Node::Marked(Mark::Option, part) => language.union(vec![made[*part], EMPTY]),
             };
         }
         language.whole = made[0];

@@ -1,14 +1,15 @@
 //! Sets of positions, by an automaton with empty steps in Thompson's way.
 //!
 //! Each node of the tree has an entry and an exit; empty steps join them, and a position is the one step from its entry to its
-//! exit that reads a byte. The set that a text reaches is the set of positions that can be the one read last; the text that has
+//! exit that reads a byte. A mark copies nothing: the three differ only in whether a step leads past the part, and whether one
+//! leads back to its entry. The set that a text reaches is the set of positions that can be the one read last; the text that has
 //! no byte reaches {0}.
 
 use std::collections::HashMap;
 
 use crate::limits;
 use crate::machine::Machine;
-use crate::text::{Node, Position, Tree};
+use crate::text::{Mark, Node, Position, Tree};
 
 /// How many words of 64 bits a set has.
 const WORDS: usize = limits::POSITIONS / 64 + 1;
@@ -91,9 +92,15 @@ impl Automaton {
                     }
                     steps[from].push(exit(at));
                 }
-                Node::Star(part) => {
-                    steps[entry(at)].extend([entry(*part), exit(at)]);
-                    steps[exit(*part)].extend([entry(*part), exit(at)]);
+                Node::Marked(mark, part) => {
+                    steps[entry(at)].push(entry(*part));
+                    steps[exit(*part)].push(exit(at));
+                    if *mark != Mark::Plus {
+                        steps[entry(at)].push(exit(at));
+                    }
+                    if *mark != Mark::Option {
+                        steps[exit(*part)].push(entry(*part));
+                    }
                 }
             }
         }

@@ -70,6 +70,17 @@ pub struct Range {
     pub high: u8,
 }
 
+/// A mark, which may stand after a factor.
+#[derive(Clone, Copy, PartialEq, Eq, Debug)]
+pub enum Mark {
+    /// `*`, any number of times.
+    Star,
+    /// `+`, once or more.
+    Plus,
+    /// `?`, once or not at all.
+    Option,
+}
+
 /// A node of the tree; parts are numbers of nodes.
 #[derive(Clone, PartialEq, Eq, Debug)]
 pub enum Node {
@@ -83,8 +94,8 @@ pub enum Node {
     Union(Vec<usize>),
     /// A branch: the product of its factors.
     Product(Vec<usize>),
-    /// An atom or factor with a `*` after it.
-    Star(usize),
+    /// An atom or factor with a mark after it.
+    Marked(Mark, usize),
 }
 
 /// The tree of a legal text; node 0 is the whole expression.
@@ -105,7 +116,7 @@ enum Token {
     Open,
     Close,
     Bar,
-    Star,
+    Mark(Mark),
     Nothing,
     Empty,
     Position(ByteSet),
@@ -183,7 +194,9 @@ pub fn tokens(text: &[u8]) -> Option<Tokens> {
             [b'(', ..] => (Token::Open, 1),
             [b')', ..] => (Token::Close, 1),
             [b'|', ..] => (Token::Bar, 1),
-            [b'*', ..] => (Token::Star, 1),
+            [b'*', ..] => (Token::Mark(Mark::Star), 1),
+            [b'+', ..] => (Token::Mark(Mark::Plus), 1),
+            [b'?', ..] => (Token::Mark(Mark::Option), 1),
             [b'.', ..] => (Token::Position(ByteSet::dot()), 1),
             [b'\\', b'e', ..] => (Token::Empty, 2),
             [b'\\', b'0', ..] => (Token::Nothing, 2),
@@ -234,6 +247,16 @@ fn partners(tokens: &[(usize, Token)]) -> Option<Vec<usize>> {
 }
 
 /// The tree of the text, if the text is legal, limits and the order of a range's ends aside.
+///
+/// ```
+/// use second::text::{tree, Mark, Node};
+///
+/// // It is (a+)?, in the one branch of the whole.
+/// let nodes = tree(b"a+?").unwrap().nodes;
+/// assert_eq!(nodes[2], Node::Marked(Mark::Option, 3));
+/// assert_eq!(nodes[3], Node::Marked(Mark::Plus, 4));
+/// assert_eq!(nodes[4], Node::Position(1));
+/// ```
 pub fn tree(text: &[u8]) -> Option<Tree> {
     let Tokens { tokens, ranges } = tokens(text)?;
     let partner = partners(&tokens)?;
@@ -263,9 +286,14 @@ pub fn tree(text: &[u8]) -> Option<Tree> {
                     at + 1
                 };
                 factors.push(nodes.len());
-                while at < to && tokens[at].1 == Token::Star {
-                    nodes.push(Node::Star(nodes.len() + 1));
+                let mut marks = Vec::new();
+                while let Some((_, Token::Mark(mark))) = tokens.get(at) {
+                    marks.push(*mark);
                     at += 1;
+                }
+                // The last mark holds those before it.
+                for mark in marks.into_iter().rev() {
+                    nodes.push(Node::Marked(mark, nodes.len() + 1));
                 }
                 let node = nodes.len();
                 nodes.push(match atom {
@@ -277,7 +305,7 @@ pub fn tree(text: &[u8]) -> Option<Tree> {
                         stretches.push((node, first + 1, partner[first], depth + 1));
                         Node::Nothing
                     }
-                    Token::Star | Token::Bar | Token::Close => return None,
+                    Token::Mark(_) | Token::Bar | Token::Close => return None,
                 });
             }
             if factors.is_empty() {

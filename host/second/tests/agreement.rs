@@ -57,9 +57,32 @@ fn derivatives_and_rooms_agree_on_all_short_patterns() {
 }
 
 #[test]
+fn legal_texts_by_rewriting() {
+    // Every atom of up to four pattern bytes, parentheses aside, becomes a letter; then what is made of letters, until nothing does.
+    let ascii = |text: Vec<u8>| String::from_utf8(text).expect("ASCII");
+    let escapes = "\\|*+?()[]-.".chars().map(|byte| format!("\\{byte}"));
+    let inside = strings(b"ab|*+?()e0.", 2).skip(1).map(ascii);
+    let classes = inside.map(|inside| format!("[{inside}]"));
+    let others = ["\\e", "\\0", "b", "e", "0", "-", "."].map(String::from);
+    let atoms: Vec<String> = escapes.chain(classes).chain(others).collect();
+    let made = ["a*", "a+", "a?", "aa", "a|a", "(a)"];
+    for text in patterns(4) {
+        let mut rest = ascii(text.clone());
+        for atom in &atoms {
+            rest = rest.replace(atom, "a");
+        }
+        for whole in made.repeat(text.len()) {
+            rest = rest.replace(whole, "a");
+        }
+        let legal = second::text::tree(&text).is_some();
+        assert_eq!(legal, rest == "a", "{}", text.escape_ascii());
+    }
+}
+
+#[test]
 fn viable_prefixes_by_trying_every_continuation() {
     // Every continuation of up to four bytes: a prefix of three bytes needs no longer one.
-    let bytes = b"a|*()[]-\\x0";
+    let bytes = b"a|*+?()[]-\\x0";
     let mut lost = std::collections::HashSet::new();
     for prefix in strings(bytes, 3) {
         let begun = prefix.split_last().map_or(&[][..], |(_, begun)| begun);

@@ -1,8 +1,8 @@
--- `*`, `|` and `)` go on after an atom alone; with any other byte an atom may begin.
-use mathlib.Core.Logic.{inl, inr}
+-- Where an atom is awaited it may begin. After one a mark, `|` and `)` go on, and with any other byte the next may begin.
 use native.Mathlib.Omega.{arith}
 use borrow.Author.Needs.{needs}
-use Rattle.judge_step.proofs.Outside.{await-none, close-none, atom-else, star-taken, bar-taken, close-taken}
+use Rattle.judge_state.proofs.ByteTaken.{known}
+use Rattle.judge_step.proofs.Outside.{atom-awaited, atom-else, mark-taken, bar-taken, close-none, close-taken}
 use Rattle.judge_step.proofs.at_atom.Statement.{statement}
 use Rattle.judge_step.proofs.at_atom.Tie as tie
 
@@ -11,16 +11,13 @@ at-atom-spec =
     tie.close
     (tie.spec
     (λ c κs. search needs)
-    (λ c. let a = c .before .before .before .args in (await-none (a .b) (a .place) (c .before .before .before .pre .1) (c .before .if2 .taken) (inl (c .before .before .if1 .taken)) (c .stuck .ensures .0), search needs))
-    (λ c. let a = c .before .before .args in (star-taken (a .b) (a .place) (c .before .before .pre .1) (omega arith) (c .before .if1 .taken), search needs))
+    (λ c. let s = c .before .before .before in let a = s .args in (atom-awaited (a .b) (a .place) (s .pre .1) (c .before .if1 .taken) (c .begin-atom .ensures .0), search needs))
     (λ c κs. search needs)
-    (λ c. let s = c .before .before .before .before in let a = s .args in (await-none (a .b) (a .place) (s .pre .1) (c .before .if4 .taken) (inr (inl (c .before .before .if3 .taken))) (c .stuck2 .ensures .0), search needs))
-    (λ c. let a = c .before .before .before .args in (bar-taken (a .b) (a .place) (c .before .before .before .pre .1) (omega arith) (c .before .if3 .taken), search needs))
+    (λ c. let s = c .before .before .before .before in let a = s .args in (mark-taken (a .b) (a .place) (s .pre .1) (omega arith) (known (c .before .is-mark .ensures) (c .if2 .taken)), search needs))
+    (λ c. let s = c .before .before .before .before .before in let a = s .args in (bar-taken (a .b) (a .place) (s .pre .1) (omega arith) (c .if3 .taken), search needs))
     (λ c κs. search needs)
-    (λ c. let s = c .before .before .before .before .before in let a = s .args in (await-none (a .b) (a .place) (s .pre .1) (c .before .if6 .taken) (inr (inr (c .before .before .if5 .taken))) (c .stuck3 .ensures .0), search needs))
-    (λ c κs. search needs)
-    (λ c. let s = c .before .before .before .before .before .before in let a = s .args in (close-none (a .b) (a .place) (s .pre .1) (omega arith) (c .before .before .before .if5 .taken) (c .before .if7 .taken) (c .stuck4 .ensures .0), search needs))
+    (λ c. let s = c .before .before .before .before .before .before .before .before in let a = s .args in (close-none (a .b) (a .place) (s .pre .1) (omega arith) (c .before .before .if4 .taken) (c .before .if5 .taken) (c .stuck .ensures .0), search needs))
     (λ c. search needs)
-    (λ c. let s = c .before .before .before .before .before in let a = s .args in (close-taken (a .b) (a .place) (s .pre .1) (omega arith) (c .before .before .if5 .taken) (c .if7 .left), search needs))
+    (λ c. let s = c .before .before .before .before .before .before .before in let a = s .args in (close-taken (a .b) (a .place) (s .pre .1) (omega arith) (c .before .if4 .taken) (c .if5 .left), search needs))
     (λ c κs. search needs)
-    (λ c. let s = c .before .before .before .before in let a = s .args in (atom-else (a .b) (a .place) (s .pre .1) (s .pre .2) (c .before .before .before .if1 .left) (c .before .before .if3 .left) (c .before .if5 .left) (c .begin-atom .ensures .0), search needs)))
+    (λ c. let t = c .before .before .before in let s = t .before .before .before .before in let a = s .args in (atom-else (a .b) (a .place) (s .pre .1) (omega arith) (known (t .before .is-mark .ensures) (t .if2 .left)) (c .before .before .if3 .left) (c .before .if4 .left) (c .begin-atom2 .ensures .0), search needs)))

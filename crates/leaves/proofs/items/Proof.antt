@@ -1,4 +1,4 @@
--- The invariant: of the items of every class that could be read here, those from the place on are left to mark.
+-- The invariant: of the items of every class that could be read here, those from the place on are left to put in.
 use Prim.Native.Nat.{_-_}
 use mathlib.Core.Path.{_≡_, refl}
 use borrow.Author.Needs.{needs}

@@ -6,7 +6,7 @@ use Rattle.leaves.proofs.single.Statement.{statement}
 use Rattle.leaves.proofs.single.Tie as tie
 
 returns : tie.Need-returns
-returns c = let i = c .before .before .before .before in single-dot (i .before .before .before .before .pre .0) (i .before .byte-at .ensures .0) (i .if1 .taken) (c .before .before .mark-dot .ensures)
+returns c = let i = c .before .before .before .before in single-dot (i .before .before .before .before .pre .0) (i .before .byte-at .ensures .0) (i .if1 .taken) (c .before .before .insert-dot .ensures)
 
 items-requires : tie.Need-items-requires
 items-requires c κs = (single-items (c .before .before .before .before .before .before .pre .0) (c .before .before .before .byte-at .ensures .0) (c .before .if2 .taken), search needs)
@@ -18,13 +18,13 @@ escape-requires : tie.Need-escape-requires
 escape-requires c κs = single-escape (c .before .before .before .before .before .before .pre .0) (c .before .before .before .byte-at .ensures .0) (c .if3 .taken)
 
 returns-3 : tie.Need-returns-3
-returns-3 c = let e = c .before .before .before .before in single-byte (e .before .before .before .before .before .before .before .pre .0) (e .before .before .before .before .byte-at .ensures .0) (e .escape .ensures) (c .before .before .mark .ensures)
+returns-3 c = let e = c .before .before .before .before in single-byte (e .before .before .before .before .before .before .before .pre .0) (e .before .before .before .before .byte-at .ensures .0) (e .escape .ensures) (c .before .before .insert .ensures)
 
 cast-c : tie.Need-cast-c
 cast-c c = omega (arith, literal-byte (c .before .before .before .before .before .before .pre .0) (c .before .before .before .byte-at .ensures .0) (c .before .before .if1 .left) (c .before .if2 .left) (c .if3 .left))
 
 returns-4 : tie.Need-returns-4
-returns-4 c = let i = c .before .before .before .before in single-literal (i .before .before .before .before .before .before .pre .0) (i .before .before .before .byte-at .ensures .0) (i .before .before .if1 .left) (i .before .if2 .left) (i .if3 .left) (c .before .before .mark2 .ensures)
+returns-4 c = let i = c .before .before .before .before in single-literal (i .before .before .before .before .before .before .pre .0) (i .before .before .before .byte-at .ensures .0) (i .before .before .if1 .left) (i .before .if2 .left) (i .if3 .left) (c .before .before .insert2 .ensures)
 
 pub single-spec : {M : Type 1} → statement M
 single-spec =

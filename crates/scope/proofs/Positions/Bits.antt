@@ -13,7 +13,7 @@ use lib.Dec.{eqb, eqb·suc-suc, eqb·zero-suc, eqb·suc-zero, lit<}
 use lib.Pow.{pow-lt, pow-pos, pow-mono, shr-shr}
 use lib.Bits.{bitOr, or-shr, or-mod}
 use lib.Count.{trailingZeros}
-use Rattle.scope.specs.Text.Re.{Re, none, eps, one, alt, cat, star, size}
+use Rattle.scope.specs.Text.Re.{Re, none, eps, one, alt, cat, star, plus, size}
 use Rattle.scope.specs.Positions.Sets.{Null, First, Last, Follow, At}
 use Rattle.scope.specs.Positions.Bits.{has, given, null, first, last, follow, holders}
 use Rattle.scope.specs.Tests.{Tests}
@@ -109,6 +109,7 @@ null-is (one s) = never (λ x. x)
 null-is (alt e f) = or (null-is e) (null-is f)
 null-is (cat e f) = and (null-is e) (null-is f)
 null-is (star e) = always tt
+null-is (plus e) = null-is e
 
 pub first-is : (e : Re) (k p : ℕ) → Tests (has (first e k) p) (First e k p)
 unfolding first
@@ -118,6 +119,7 @@ first-is (one s) k p = rw has-pow (equals (k + 1) p)
 first-is (alt e f) k p = rw has-or (or (first-is e k p) (first-is f (k + size e) p))
 first-is (cat e f) k p = rw (has-or, has-given) (or (first-is e k p) (and (null-is e) (first-is f (k + size e) p)))
 first-is (star e) k p = first-is e k p
+first-is (plus e) k p = first-is e k p
 
 pub last-is : (e : Re) (k p : ℕ) → Tests (has (last e k) p) (Last e k p)
 unfolding last
@@ -127,6 +129,7 @@ last-is (one s) k p = rw has-pow (equals (k + 1) p)
 last-is (alt e f) k p = rw has-or (or (last-is e k p) (last-is f (k + size e) p))
 last-is (cat e f) k p = rw (has-or, has-given) (or (last-is f (k + size e) p) (and (null-is f) (last-is e k p)))
 last-is (star e) k p = last-is e k p
+last-is (plus e) k p = last-is e k p
 
 pub follow-is : (e : Re) (k p q : ℕ) → Tests (has (follow e k p) q) (Follow e k p q)
 unfolding follow
@@ -136,6 +139,7 @@ follow-is (one s) k p q = rw has-zero (never (λ x. x))
 follow-is (alt e f) k p q = rw has-or (or (follow-is e k p q) (follow-is f (k + size e) p q))
 follow-is (cat e f) k p q = simp (has-or, has-given) (or (or (follow-is e k p q) (follow-is f (k + size e) p q)) (and (last-is e k p) (first-is f (k + size e) q)))
 follow-is (star e) k p q = rw (has-or, has-given) (or (follow-is e k p q) (and (last-is e k p) (first-is e k q)))
+follow-is (plus e) k p q = rw (has-or, has-given) (or (follow-is e k p q) (and (last-is e k p) (first-is e k q)))
 
 pub holders-is : (e : Re) (k p b : ℕ) → Tests (has (holders e k b) p) (At e k p b)
 unfolding holders
@@ -145,3 +149,4 @@ holders-is (one s) k p b = rw (has-given, has-pow) (amounts (and (itself (s b)) 
 holders-is (alt e f) k p b = rw has-or (or (holders-is e k p b) (holders-is f (k + size e) p b))
 holders-is (cat e f) k p b = rw has-or (or (holders-is e k p b) (holders-is f (k + size e) p b))
 holders-is (star e) k p b = holders-is e k p b
+holders-is (plus e) k p b = holders-is e k p b

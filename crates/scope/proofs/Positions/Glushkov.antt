@@ -3,6 +3,7 @@
 -- what is left after p is empty, if p is in Last, or has first a byte at a position in Follow. A path is one such step after the other.
 --   PositionOf e k p, with first-in, last-in, at-in, follow-in: the positions of e are k + 1 .. k + size e
 --   glushkov: a word is in the language exactly if the position automaton has a path for it
+--   plus-words, plus-empty: the words of F+ are those of F·F*; it has the empty word exactly if F has
 --   first-before-nothing, no-word-before-nothing: First(a·∅) = {1}, though a·∅ has no word
 use mathlib.Core.Path.{_≡_, refl}
 use mathlib.Core.Logic.{_⊎_, inl, inr, _↔_}
@@ -10,7 +11,7 @@ use mathlib.Core.List.{List, [], _∷_, _++_}
 use Prim.Native.Nat.{ℕ, zero, suc, _+_, _≤_, _<_}
 use native.Mathlib.Omega.{arith}
 use Rattle.scope.specs.Bytes.{ByteSet}
-use Rattle.scope.specs.Text.Re.{Re, none, eps, one, alt, cat, star, size, Words, w-eps, w-one, w-left, w-right, w-cat, w-done, w-more}
+use Rattle.scope.specs.Text.Re.{Re, none, eps, one, alt, cat, star, plus, size, Words, w-eps, w-one, w-left, w-right, w-cat, w-done, w-more, w-plus}
 use Rattle.scope.specs.Positions.Sets.{Null, First, Last, Follow, At, Edge, Final, Path, end, to}
 
 -- ---- positions
@@ -27,6 +28,7 @@ first-in (alt e f) k p (inr h) = let r = first-in f (k + size e) p h in omega ar
 first-in (cat e f) k p (inl h) = let r = first-in e k p h in omega arith
 first-in (cat e f) k p (inr h) = let r = first-in f (k + size e) p (h .1) in omega arith
 first-in (star e) k p h = first-in e k p h
+first-in (plus e) k p h = first-in e k p h
 
 -- a position in Last is one of e
 pub last-in : (e : Re) (k p : ℕ) → Last e k p → PositionOf e k p
@@ -36,6 +38,7 @@ last-in (alt e f) k p (inr h) = let r = last-in f (k + size e) p h in omega arit
 last-in (cat e f) k p (inl h) = let r = last-in f (k + size e) p h in omega arith
 last-in (cat e f) k p (inr h) = let r = last-in e k p (h .1) in omega arith
 last-in (star e) k p h = last-in e k p h
+last-in (plus e) k p h = last-in e k p h
 
 -- a position that holds a byte is one of e
 pub at-in : (e : Re) (k p b : ℕ) → At e k p b → PositionOf e k p
@@ -45,6 +48,7 @@ at-in (alt e f) k p b (inr h) = let r = at-in f (k + size e) p b h in omega arit
 at-in (cat e f) k p b (inl h) = let r = at-in e k p b h in omega arith
 at-in (cat e f) k p b (inr h) = let r = at-in f (k + size e) p b h in omega arith
 at-in (star e) k p b h = at-in e k p b h
+at-in (plus e) k p b h = at-in e k p b h
 
 -- positions of which one follows the other are both of e
 pub follow-in : (e : Re) (k p q : ℕ) → Follow e k p q → PositionOf e k p × PositionOf e k q
@@ -55,6 +59,8 @@ follow-in (cat e f) k p q (inl (inr h)) = let r = follow-in f (k + size e) p q h
 follow-in (cat e f) k p q (inr h) = omega (arith, last-in e k p (h .0), first-in f (k + size e) q (h .1))
 follow-in (star e) k p q (inl h) = follow-in e k p q h
 follow-in (star e) k p q (inr h) = (last-in e k p (h .0), first-in e k q (h .1))
+follow-in (plus e) k p q (inl h) = follow-in e k p q h
+follow-in (plus e) k p q (inr h) = (last-in e k p (h .0), first-in e k q (h .1))
 
 -- ---- what is left of a word, and its next step
 
@@ -69,6 +75,7 @@ Rest (one s) k p w = (p ≡ k + 1) × (w ≡ [])
 Rest (alt e f) k p w = Rest e k p w ⊎ Rest f (k + size e) p w
 Rest (cat e f) k p w = Split (Rest e k p) (Words f) w ⊎ Rest f (k + size e) p w
 Rest (star e) k p w = Split (Rest e k p) (Words (star e)) w
+Rest (plus e) k p w = Split (Rest e k p) (Words (star e)) w
 
 -- the end, where E holds, or a byte at a position in F and then what is left
 data NextByte (e : Re) (k : ℕ) (E : Type 0) (F : ℕ → Type 0) : List ℕ → Type 0 where
@@ -99,6 +106,12 @@ star-begins : {e : Re} {k : ℕ} {u v : List ℕ} → Begins e k u → Begins (s
 star-begins (stop n) m g = m
 star-begins (on i a t) m g = on i a (split t g)
 
+-- F·F*: without the byte of its first factor, if that is empty
+plus-begins : {e : Re} {k : ℕ} {u v : List ℕ} → Begins e k u → Begins (star e) k v → Words (star e) v → Begins (plus e) k (u ++ v)
+plus-begins (stop n) (stop m) g = stop n
+plus-begins (stop n) (on i a t) g = on i a t
+plus-begins (on i a t) m g = on i a (split t g)
+
 word-begins : {e : Re} {w : List ℕ} (k : ℕ) → Words e w → Begins e k w
 word-begins k w-eps = stop tt
 word-begins k (w-one h) = on refl (refl, h) (refl, refl)
@@ -107,6 +120,7 @@ word-begins k (w-right {e = e} h) = carry inr (λ q. inr) (λ q b. inr) (λ q v.
 word-begins k (w-cat {e = e} h g) = cat-begins (word-begins k h) (word-begins (k + size e) g) g
 word-begins k w-done = stop tt
 word-begins k (w-more h g) = star-begins (word-begins k h) (word-begins k g) g
+word-begins k (w-plus h g) = plus-begins (word-begins k h) (word-begins k g) g
 
 cat-goes : {e f : Re} {k : ℕ} {u v : List ℕ} (p : ℕ) → Goes e k p u → Begins f (k + size e) v → Words f v → Goes (cat e f) k p (u ++ v)
 cat-goes p (stop l) (stop n) g = stop (inr (n, l))
@@ -125,6 +139,7 @@ rest-goes (alt e f) k p w (inr t) = carry inr (λ q. inr) (λ q b. inr) (λ q v.
 rest-goes (cat e f) k p w (inl (split {u = u} t g)) = cat-goes p (rest-goes e k p u t) (word-begins (k + size e) g) g
 rest-goes (cat e f) k p w (inr t) = carry inl (λ q h. inl (inr h)) (λ q b. inr) (λ q v. inr) (rest-goes f (k + size e) p w t)
 rest-goes (star e) k p w (split {u = u} t g) = star-goes p (rest-goes e k p u t) (word-begins k g) g
+rest-goes (plus e) k p w (split {u = u} t g) = carry (λ l. l) (λ q h. h) (λ q b a. a) (λ q v r. r) (star-goes p (rest-goes e k p u t) (word-begins k g) g)
 
 -- ---- what begins so is a word, and what goes so is left: no position is in two parts
 
@@ -164,6 +179,14 @@ begins-word (cat e f) k (on {q = q} {b = b} (inr (n, i)) a (inr t)) =
     w-cat (begins-word e k (stop n)) (begins-word f (k + size e) (on i (at-right e f k q b (first-in f (k + size e) q i) a) t))
 begins-word (star e) k (stop n) = w-done
 begins-word (star e) k (on i a (split t g)) = w-more (begins-word e k (on i a t)) g
+begins-word (plus e) k (stop n) = w-plus (begins-word e k (stop n)) w-done
+begins-word (plus e) k (on i a (split t g)) = w-plus (begins-word e k (on i a t)) g
+
+-- F* and F+ go on in the same way
+star-rest : (e : Re) (k p : ℕ) {w : List ℕ} → ((v : List ℕ) → Goes e k p v → Rest e k p v) → Goes (star e) k p w → Rest (star e) k p w
+star-rest e k p f (stop l) = split (f _ (stop l)) w-done
+star-rest e k p f (on (inl h) a (split t g)) = split (f _ (on h a t)) g
+star-rest e k p f (on (inr (l, i)) a (split t g)) = split (f _ (stop l)) (w-more (begins-word e k (on i a t)) g)
 
 goes-rest : (e : Re) (k p : ℕ) {w : List ℕ} → Goes e k p w → Rest e k p w
 goes-rest none k p (stop l) = l
@@ -183,9 +206,8 @@ goes-rest (cat e f) k p (on {q = q} {b = b} (inl (inr h)) a (inr t)) =
 goes-rest (cat e f) k p (on {q = q} (inr (l, i)) a (inl (split {u = u} t g))) = absurd (omega (arith, first-in f (k + size e) q i, rest-in e k q u t))
 goes-rest (cat e f) k p (on {q = q} {b = b} (inr (l, i)) a (inr t)) =
     inl (split (goes-rest e k p (stop l)) (begins-word f (k + size e) (on i (at-right e f k q b (first-in f (k + size e) q i) a) t)))
-goes-rest (star e) k p (stop l) = split (goes-rest e k p (stop l)) w-done
-goes-rest (star e) k p (on (inl h) a (split t g)) = split (goes-rest e k p (on h a t)) g
-goes-rest (star e) k p (on (inr (l, i)) a (split t g)) = split (goes-rest e k p (stop l)) (w-more (begins-word e k (on i a t)) g)
+goes-rest (star e) k p m = star-rest e k p (λ v. goes-rest e k p) m
+goes-rest (plus e) k p m = star-rest e k p (λ v. goes-rest e k p) (carry (λ l. l) (λ q h. h) (λ q b a. a) (λ q v r. r) m)
 
 -- ---- paths
 
@@ -215,3 +237,22 @@ first-before-nothing s p = (λ h. elim h [ inl x ↦ x | inr x ↦ absurd (x .0)
 -- yet e·∅ has no word, whatever e is
 pub no-word-before-nothing : (e : Re) (w : List ℕ) → Words (cat e none) w → ⊥
 no-word-before-nothing e w (w-cat h g) = elim (word-begins 0 g) [ stop n ↦ n | on i a t ↦ i ]
+
+-- ---- marks
+
+-- "F+ is F·F*"
+pub plus-words : (e : Re) (w : List ℕ) → Words (plus e) w ↔ Words (cat e (star e)) w
+plus-words e w = (there, back)
+  where
+    there : {v : List ℕ} → Words (plus e) v → Words (cat e (star e)) v
+    there (w-plus h g) = w-cat h g
+
+    back : {v : List ℕ} → Words (cat e (star e)) v → Words (plus e) v
+    back (w-cat h g) = w-plus h g
+
+-- "F+ is nullable exactly if F is"
+pub plus-empty : (e : Re) → Words (plus e) [] ↔ Words e []
+plus-empty e = (λ h. there (word-begins 0 h), λ h. w-plus h w-done)
+  where
+    there : Begins (plus e) 0 [] → Words e []
+    there (stop n) = begins-word e 0 (stop n)

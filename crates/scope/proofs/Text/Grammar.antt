@@ -12,7 +12,7 @@ use mathlib.Core.List.{List}
 use native.Mathlib.Omega.{arith}
 use Rattle.scope.specs.Bytes.{byte}
 use Rattle.scope.specs.Text.Tree.{Item, lone, Leaf, letter, class, Tree}
-use Rattle.scope.specs.Text.Grammar.{literal, escapable, classLiteral, Escape, plain, coded, ClassByte, bare, escaped, OneItem, one-byte, low-high, Items, last-item, more-items, Single, a-dot, a-literal, an-escape, a-class, Level, Reads, single, no-byte, no-word, in-group, one-atom, one-star, one-factor, next-factor, one-branch, next-branch}
+use Rattle.scope.specs.Text.Grammar.{literal, escapable, classLiteral, Escape, plain, coded, ClassByte, bare, escaped, OneItem, one-byte, low-high, Items, last-item, more-items, Single, a-dot, a-literal, an-escape, a-class, Level, Reads, single, no-byte, no-word, in-group, one-atom, one-mark, one-factor, next-factor, one-branch, next-branch}
 
 module _ {s : List ℕ} where
   pub escape-on : {i j b : ℕ} → Escape s i j b → i < j
@@ -43,7 +43,7 @@ module _ {s : List ℕ} where
   reads-on (no-word h k) = omega arith
   reads-on (in-group h r k) = omega (arith, reads-on r)
   reads-on (one-atom r) = reads-on r
-  reads-on (one-star r h) = omega (arith, reads-on r)
+  reads-on (one-mark m r h) = omega (arith, reads-on r)
   reads-on (one-factor r) = reads-on r
   reads-on (next-factor r q) = omega (arith, reads-on r, reads-on q)
   reads-on (one-branch r) = reads-on r

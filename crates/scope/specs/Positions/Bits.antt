@@ -11,7 +11,7 @@ use Prim.Native.Nat.{ℕ, zero, suc, _+_, _/_, _%_, _^_}
 use mathlib.Core.Bool.{Bool, true, false, not, _&&_, _||_}
 use lib.Bits.{bitOr, bitAnd}
 use lib.Dec.{eqb}
-use Rattle.scope.specs.Text.Re.{Re, none, eps, one, alt, cat, star, size}
+use Rattle.scope.specs.Text.Re.{Re, none, eps, one, alt, cat, star, plus, size}
 
 abbrev pub has : ℕ → ℕ → Bool
 has s p = eqb (s / 2 ^ p % 2) 1
@@ -31,6 +31,7 @@ null (one s) = false
 null (alt e f) = null e || null f
 null (cat e f) = null e && null f
 null (star e) = true
+null (plus e) = null e
 
 unfoldable pub first : Re → ℕ → ℕ
 unfolding null
@@ -40,6 +41,7 @@ first (one s) k = 2 ^ (k + 1)
 first (alt e f) k = bitOr (first e k) (first f (k + size e))
 first (cat e f) k = bitOr (first e k) (given (null e) (first f (k + size e)))
 first (star e) k = first e k
+first (plus e) k = first e k
 
 unfoldable pub last : Re → ℕ → ℕ
 unfolding null
@@ -49,6 +51,7 @@ last (one s) k = 2 ^ (k + 1)
 last (alt e f) k = bitOr (last e k) (last f (k + size e))
 last (cat e f) k = bitOr (last f (k + size e)) (given (null f) (last e k))
 last (star e) k = last e k
+last (plus e) k = last e k
 
 unfoldable pub follow : Re → ℕ → ℕ → ℕ
 unfolding first last
@@ -58,6 +61,7 @@ follow (one s) k p = 0
 follow (alt e f) k p = bitOr (follow e k p) (follow f (k + size e) p)
 follow (cat e f) k p = bitOr (bitOr (follow e k p) (follow f (k + size e) p)) (given (has (last e k) p) (first f (k + size e)))
 follow (star e) k p = bitOr (follow e k p) (given (has (last e k) p) (first e k))
+follow (plus e) k p = bitOr (follow e k p) (given (has (last e k) p) (first e k))
 
 unfoldable pub holders : Re → ℕ → ℕ → ℕ
 holders none k b = 0
@@ -66,6 +70,7 @@ holders (one s) k b = given (s b) (2 ^ (k + 1))
 holders (alt e f) k b = bitOr (holders e k b) (holders f (k + size e) b)
 holders (cat e f) k b = bitOr (holders e k b) (holders f (k + size e) b)
 holders (star e) k b = holders e k b
+holders (plus e) k b = holders e k b
 
 unfoldable pub afterPosition : Re → ℕ → ℕ
 unfolding first follow

@@ -12,7 +12,7 @@ use mathlib.Core.Path.{_≡_}
 use mathlib.Core.Bool.{true}
 use mathlib.Core.Logic.{_⊎_}
 use mathlib.Core.List.{List, [], _∷_}
-use Rattle.scope.specs.Text.Re.{Re, none, eps, one, alt, cat, star, size}
+use Rattle.scope.specs.Text.Re.{Re, none, eps, one, alt, cat, star, plus, size}
 
 abbrev pub Null : Re → Type 0
 Null none = ⊥
@@ -21,6 +21,7 @@ Null (one s) = ⊥
 Null (alt e f) = Null e ⊎ Null f
 Null (cat e f) = Null e × Null f
 Null (star e) = Unit {0}
+Null (plus e) = Null e
 
 -- "In F·G: First adds First(G) if F is nullable"
 abbrev pub First : Re → ℕ → ℕ → Type 0
@@ -30,6 +31,7 @@ First (one s) k p = p ≡ k + 1
 First (alt e f) k p = First e k p ⊎ First f (k + size e) p
 First (cat e f) k p = First e k p ⊎ (Null e × First f (k + size e) p)
 First (star e) k p = First e k p
+First (plus e) k p = First e k p
 
 -- "Last is Last(G), with Last(F) if G is nullable"
 abbrev pub Last : Re → ℕ → ℕ → Type 0
@@ -39,6 +41,7 @@ Last (one s) k p = p ≡ k + 1
 Last (alt e f) k p = Last e k p ⊎ Last f (k + size e) p
 Last (cat e f) k p = Last f (k + size e) p ⊎ (Null f × Last e k p)
 Last (star e) k p = Last e k p
+Last (plus e) k p = Last e k p
 
 -- "Follow adds First(G) after each of Last(F). In F*: nullable, and Follow adds First(F) after each of Last(F)."
 abbrev pub Follow : Re → ℕ → ℕ → ℕ → Type 0
@@ -48,6 +51,7 @@ Follow (one s) k p q = ⊥
 Follow (alt e f) k p q = Follow e k p q ⊎ Follow f (k + size e) p q
 Follow (cat e f) k p q = (Follow e k p q ⊎ Follow f (k + size e) p q) ⊎ (Last e k p × First f (k + size e) q)
 Follow (star e) k p q = Follow e k p q ⊎ (Last e k p × First e k q)
+Follow (plus e) k p q = Follow e k p q ⊎ (Last e k p × First e k q)
 
 abbrev pub At : Re → ℕ → ℕ → ℕ → Type 0
 At none k p b = ⊥
@@ -56,6 +60,7 @@ At (one s) k p b = (p ≡ k + 1) × (s b ≡ true)
 At (alt e f) k p b = At e k p b ⊎ At f (k + size e) p b
 At (cat e f) k p b = At e k p b ⊎ At f (k + size e) p b
 At (star e) k p b = At e k p b
+At (plus e) k p b = At e k p b
 
 -- "State 0 starts"
 abbrev pub Edge : Re → ℕ → ℕ → Type 0

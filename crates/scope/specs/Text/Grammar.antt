@@ -1,5 +1,6 @@
 -- The pattern language, byte by byte. In each family i is the place where the thing begins, and the next number the place after it.
 --   twelve, literal, escapable, classLiteral: the bytes that 01 names
+--   isMark, markByte m: the bytes that are marks; the byte of the mark m
 --   hex b: the value of a hex digit; 16 if b is none
 --   Escape s i j b: an escape that is the byte b
 --   ClassByte s i j b: a byte in a class
@@ -13,7 +14,7 @@ use mathlib.Core.Path.{_≡_}
 use mathlib.Core.Bool.{true, not, cond, _&&_, _||_}
 use mathlib.Core.List.{List, [], _∷_}
 use Rattle.scope.specs.Bytes.{ByteSet, byte, between, isIn, ascii}
-use Rattle.scope.specs.Text.Tree.{Item, lone, range, Leaf, dot, letter, class, Tree, nothing, empty, position, group, starred, beside, either}
+use Rattle.scope.specs.Text.Tree.{Item, lone, range, Leaf, dot, letter, class, Mark, many, some, maybe, Tree, nothing, empty, position, group, marked, beside, either}
 
 -- "the twelve `( ) | * [ ] { } \ . + ?`"
 unfoldable pub twelve : ByteSet
@@ -34,6 +35,16 @@ escapable b = twelve b || isIn (ascii "^-") b
 unfoldable pub classLiteral : ByteSet
 unfolding between isIn
 classLiteral b = between 0x20 0x7E b && not (isIn (ascii "[]\\-^") b)
+
+-- "`+` and `?` after a factor, as `*` is"
+unfoldable pub isMark : ByteSet
+unfolding isIn
+isMark b = isIn (ascii "*+?") b
+
+abbrev pub markByte : Mark → ℕ
+markByte many = code "*"
+markByte some = code "+"
+markByte maybe = code "?"
 
 -- "hex digits of either case"
 unfoldable pub hex : ℕ → ℕ
@@ -83,9 +94,9 @@ module _ (s : List ℕ) where
     no-word : {i : ℕ} → byte s i ≡ code "\\" → byte s (i + 1) ≡ code "0" → Reads atoms i (i + 2) nothing
     -- "An atom may be an expression again, in parentheses"
     in-group : {i j : ℕ} {t : Tree} → byte s i ≡ code "(" → Reads exprs (i + 1) j t → byte s j ≡ code ")" → Reads atoms i (j + 1) (group i t)
-    -- "A factor is an atom and then any number of `*`."
+    -- "A factor is an atom and then any number of `*`"; of `+` and `?` too, "mixed in any number"
     one-atom : {i j : ℕ} {t : Tree} → Reads atoms i j t → Reads factors i j t
-    one-star : {i j : ℕ} {t : Tree} → Reads factors i j t → byte s j ≡ code "*" → Reads factors i (j + 1) (starred t)
+    one-mark : {i j : ℕ} {t : Tree} (m : Mark) → Reads factors i j t → byte s j ≡ markByte m → Reads factors i (j + 1) (marked m t)
     -- "A branch is one or more factors, side by side."
     one-factor : {i j : ℕ} {t : Tree} → Reads factors i j t → Reads branches i j t
     next-factor : {i j k : ℕ} {t u : Tree} → Reads branches i j t → Reads factors j k u → Reads branches i k (beside t u)

@@ -1,8 +1,10 @@
 -- The tree of a pattern: its meaning, and the places that refusals name.
 --   Item: an item of a class; a range has the place of its dash
 --   Leaf: what stands at one position
+--   Mark: `*`, `+` or `?` after a factor
 --   Tree: a pattern; a position has the place of its first byte, a group the place of its `(`
 --   dotSet, itemSet, setOf: the bytes that a dot, an item and a leaf stand for
+--   marking m e: the expression e with the mark m
 --   expr t: the expression of a tree
 --   falling t: the dashes of the ranges with low above high, left to right
 --   opened d t: the `(` that open inside d others and no more, left to right
@@ -13,7 +15,7 @@ use mathlib.Core.List.{List, [], _∷_, _++_}
 use lib.Dec.{eqb, ltb}
 use Rattle.scope.specs.Limits.{byteValues}
 use Rattle.scope.specs.Bytes.{ByteSet, between}
-use Rattle.scope.specs.Text.Re.{Re, none, eps, one, alt, cat, star}
+use Rattle.scope.specs.Text.Re.{Re, none, eps, one, alt, cat, star, plus}
 
 -- "An item is a byte or a range low-high."
 pub data Item : Type 0 where
@@ -27,12 +29,16 @@ pub data Leaf : Type 0 where
   letter : ℕ → Leaf
   class : List Item → Leaf
 
+-- `*`, `+`, `?`
+pub data Mark : Type 0 where
+  many some maybe : Mark
+
 pub data Tree : Type 0 where
   nothing : Tree
   empty : Tree
   position : ℕ → Leaf → Tree
   group : ℕ → Tree → Tree
-  starred : Tree → Tree
+  marked : Mark → Tree → Tree
   beside : Tree → Tree → Tree
   either : Tree → Tree → Tree
 
@@ -58,6 +64,12 @@ setOf dot b = dotSet b
 setOf (letter c) b = eqb b c
 setOf (class l) b = itemsSet l b
 
+-- "F+ is F·F*, F? is F or the empty word"
+abbrev pub marking : Mark → Re → Re
+marking many e = star e
+marking some e = plus e
+marking maybe e = alt e eps
+
 -- "`\e` (the empty word); `\0` (no word at all)"; "union, product and star"
 unfoldable pub expr : Tree → Re
 unfolding setOf
@@ -65,7 +77,7 @@ expr nothing = none
 expr empty = eps
 expr (position i x) = one (setOf x)
 expr (group i t) = expr t
-expr (starred t) = star (expr t)
+expr (marked m t) = marking m (expr t)
 expr (beside t u) = cat (expr t) (expr u)
 expr (either t u) = alt (expr t) (expr u)
 
@@ -95,7 +107,7 @@ falling nothing = []
 falling empty = []
 falling (position i x) = fallingLeaf x
 falling (group i t) = falling t
-falling (starred t) = falling t
+falling (marked m t) = falling t
 falling (beside t u) = falling t ++ falling u
 falling (either t u) = falling t ++ falling u
 
@@ -106,7 +118,7 @@ opened d empty = []
 opened d (position i x) = []
 opened zero (group i t) = i ∷ []
 opened (suc d) (group i t) = opened d t
-opened d (starred t) = opened d t
+opened d (marked m t) = opened d t
 opened d (beside t u) = opened d t ++ opened d u
 opened d (either t u) = opened d t ++ opened d u
 
@@ -116,6 +128,6 @@ places nothing = []
 places empty = []
 places (position i x) = i ∷ []
 places (group i t) = places t
-places (starred t) = places t
+places (marked m t) = places t
 places (beside t u) = places t ++ places u
 places (either t u) = places t ++ places u

@@ -30,7 +30,7 @@ pub fn room(pattern: &[u8]) -> Vec<u8> {
 #[test]
 fn all_short_texts_compiled() {
     all(
-        "all texts of up to 4 of 13 pattern bytes",
+        "all texts of up to 4 of 15 pattern bytes",
         small::compiling(4),
     );
     all(
@@ -63,7 +63,7 @@ fn all_short_strings_matched() {
 
 #[test]
 fn all_pairs_compared() {
-    let mut rooms: Vec<Vec<u8>> = strings(b"ab|*.", 3)
+    let mut rooms: Vec<Vec<u8>> = strings(b"ab|*+?.", 3)
         .filter(|pattern| second::machine(pattern).is_ok())
         .map(|pattern| room(&pattern))
         .collect();
@@ -74,7 +74,7 @@ fn all_pairs_compared() {
         rooms.iter().map(case)
     });
     all(
-        "all pairs of rooms of patterns of up to 3 bytes of ab|*.",
+        "all pairs of rooms of patterns of up to 3 bytes of ab|*+?.",
         pairs,
     );
 }

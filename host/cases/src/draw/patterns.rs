@@ -13,6 +13,9 @@ pub enum Alphabet {
     Full,
 }
 
+/// The marks that may stand after a factor.
+const MARKS: &[u8; 3] = b"*+?";
+
 /// A limit of document 01 that patterns are drawn near to.
 #[derive(Clone, Copy, PartialEq, Eq, Debug)]
 pub enum Limit {
@@ -84,7 +87,8 @@ impl Draw {
                 self.atom(out, alphabet, solid);
             }
             while self.once_in(4) {
-                out.push(b'*');
+                let mark = self.pick(MARKS);
+                out.push(mark);
             }
         }
     }
@@ -239,7 +243,10 @@ impl Draw {
                     pattern.push(b')');
                     wraps += 1;
                 }
-                _ => pattern.push(b'*'),
+                _ => {
+                    let mark = self.pick(MARKS);
+                    pattern.push(mark);
+                }
             }
         }
         pattern
@@ -249,7 +256,7 @@ impl Draw {
     pub fn near_depth(&mut self) -> Vec<u8> {
         let depth = self.between(limits::DEPTH - 1, limits::DEPTH + 2);
         let beside: [&[u8]; 6] = [b"", b"", b"a", b"b|", b"(a)", b"[(]"];
-        let after: [&[u8]; 6] = [b"", b"", b"*", b"a", b"|b", b"\\("];
+        let after: [&[u8]; 8] = [b"", b"", b"*", b"+", b"?", b"a", b"|b", b"\\("];
         let mut pattern = Vec::new();
         for _ in 0..depth {
             let part = self.pick(&beside);
@@ -335,10 +342,12 @@ impl Draw {
             branches.push([vec![c], counted(4)].concat());
             branches.push(vec![d; sets - 99]);
         } else {
-            // Two cycles without a common divisor, and one more set for each letter of the last branch.
+            // Two cycles without a common divisor, and one more set for each letter of the last branch. Whether a cycle may be
+            // left out makes no other set.
             let (one, other) = self.pick(&[(9, 13), (8, 15), (7, 17), (10, 11), (5, 23)]);
             for times in [one, other] {
-                branches.push([vec![b'('], vec![a; times], vec![b')', b'*']].concat());
+                let mark = self.pick(b"*+");
+                branches.push([vec![b'('], vec![a; times], vec![b')', mark]].concat());
             }
             branches.push(vec![d; sets - 2 - one * other]);
         }

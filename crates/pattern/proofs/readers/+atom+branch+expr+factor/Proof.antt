@@ -32,7 +32,7 @@ use Rattle.pattern.proofs.readers.factor.Reads as factor
 use Rattle.pattern.proofs.readers.factor.Kinds as factor-kinds
 use Rattle.pattern.proofs.readers.+atom+branch+expr+factor.Lts-factor as factor-lts
 use Rattle.factors.proofs.leaf.Reads as leaf-reads
-use Rattle.factors.proofs.stars.Reads as stars-reads
+use Rattle.factors.proofs.marks.Reads as marks-reads
 use Rattle.fragments.proofs.beside.Reads as beside-reads
 use Rattle.fragments.proofs.either.Reads as either-reads
 use Rattle.fragments.proofs.link.Reads as link-reads
@@ -140,14 +140,14 @@ expr-part t = expr-lts.spec (branch-below t, branch.Post, byte-at-reads.Asked, b
     (λ c. search needs)
     (λ c. let b = c .before .before .before .before .before .before .before in going-found (λ i j t. first-expr) (b .before .before .before .before .before .before .pre .1 .0) (b .branch .ensures) (c .before .before .loop .inv .4) (λ t u j x. branch-last x (λ e. c .if1 .left (c .before .byte-at .ensures .0 ∙ e))))
 
-factor-part : {M : Type 1} (t : ℕ) → factor-lts.Closed (atom-below t, atom.Post, stars-reads.Asked, stars-reads.Learnt) (factor-at t) factor.Post M
-factor-part t = factor-lts.spec (atom-below t, atom.Post, stars-reads.Asked, stars-reads.Learnt) (factor-at t)
+factor-part : {M : Type 1} (t : ℕ) → factor-lts.Closed (atom-below t, atom.Post, marks-reads.Asked, marks-reads.Learnt) (factor-at t) factor.Post M
+factor-part t = factor-lts.spec (atom-below t, atom.Post, marks-reads.Asked, marks-reads.Learnt) (factor-at t)
     factor.Post
     (λ c κs. (omega arith, (ready-atom (c .before .before .before .before .before .pre .1 .0), search needs)))
     (λ c κs. factor-fit (c .before .before .before .before .before .before .before .before .before .before .before .pre .1 .0) (c .before .before .before .before .before .atom .ensures) (search needs))
     (λ c. search needs)
     (λ c. search needs)
-    (λ c. let a = c .before .before .before .before .before .before .before .before in factor-found (a .before .before .before .before .before .before .pre .1 .0) (a .atom .ensures) (c .before .before .stars .ensures))
+    (λ c. let a = c .before .before .before .before .before .before .before .before in factor-found (a .before .before .before .before .before .before .pre .1 .0) (a .atom .ensures) (c .before .before .marks .ensures))
 
 pub +atom+branch+expr+factor-spec : {M : Type 1} → statement M
 +atom+branch+expr+factor-spec = close μ-atom μ-branch μ-expr μ-factor atom-part branch-part expr-part factor-part

@@ -18,8 +18,8 @@ use Prim.Native.Char as char
 use mathlib.Core.Bool.{Bool, true, false, cond}
 use mathlib.Core.List.{List, [], _∷_}
 use lib.Dec.{eqb, ltb}
 use Rattle.scope.specs.Bytes.{ByteSet, byte}
-use Rattle.scope.specs.Text.Grammar.{literal, escapable, classLiteral, hex}
+use Rattle.scope.specs.Text.Grammar.{literal, escapable, classLiteral, isMark, hex}
 
 pub data Piece : Type 0 where
   atom low high : Piece
@@ -69,9 +69,9 @@ abbrev pub closes : ℕ → State
 closes zero = stuck
 closes (suc n) = at afterAtom n
 
--- `*`, `|` and `)` after an atom, `-` and `]` in a class
+-- a mark, `|` and `)` after an atom, `-` and `]` in a class
 abbrev pub ends : Piece → ℕ → ℕ → State
-ends atom n b = cond (eqb (char.code "*") b) (at afterAtom n) (cond (eqb (char.code "|") b) (at (await atom) n) (cond (eqb (char.code ")") b) (closes n) stuck))
+ends atom n b = cond (isMark b) (at afterAtom n) (cond (eqb (char.code "|") b) (at (await atom) n) (cond (eqb (char.code ")") b) (closes n) stuck))
 ends low n b = cond (eqb (char.code "-") b) (at (await high) n) (cond (eqb (char.code "]") b) (at afterAtom n) stuck)
 ends high n b = cond (eqb (char.code "]") b) (at afterAtom n) stuck
 

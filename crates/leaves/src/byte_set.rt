@@ -1,4 +1,4 @@
-// Byte sets of positions, in which the bytes of a range are marked.
+// Byte sets of positions, into which the bytes of a range are put.
 ghost use mathlib.Core.Path.{_≡_};
 ghost use Prim.Native.Nat.{ℕ, _-_, _/_, _<_, _≤_};
 ghost use lib.ListN.{length};
@@ -6,7 +6,7 @@ ghost use Rattle.scope.specs.Positions.Bits.{has};
 ghost use Rattle.scope.specs.Bytes.{between};
 ghost use Rattle.scope.specs.Limits.{byteValues, positionLimit};
 ghost use Rattle.sets.specs.Layout.{byteSets};
-ghost use Rattle.leaves.specs.MarkedBytes.{Marked};
+ghost use Rattle.leaves.specs.GrownSets.{SetGrown};
 use sets::layout::BYTE_SET;
 
 // The byte that has the bits from first to last.
@@ -26,10 +26,10 @@ fn same_until(b: usize, end: usize) -> usize
     if next < end { next } else { end }
 }
 
-// Marks the bytes low to high as those of the position that has k others before it, in one step those that have their bits in one byte.
-pub fn mark(bytes: &mut [u8], k: usize, low: u8, high: u8)
+// Puts the bytes low to high into the set of the position that has k others before it, in one step those that have their bits in one byte.
+pub fn insert(bytes: &mut [u8], k: usize, low: u8, high: u8)
     requires { ⌜ (k < positionLimit) × (byteSets ≤ length (now bytes)) ⌝ }
-    ensures { λ _. ⌜ Marked k (between low high) (now (bytes .entry)) (now (bytes .exit)) ⌝ }
+    ensures { λ _. ⌜ SetGrown k (between low high) (now (bytes .entry)) (now (bytes .exit)) ⌝ }
 {
     let end = high as usize + 1;
     let mut b = low as usize;

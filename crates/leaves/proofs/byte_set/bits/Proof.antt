@@ -7,9 +7,9 @@ use lib.Dec.{lit<}
 use lib.Pow.{pow-mono, pow-pos, shl-exact}
 use borrow.Author.Needs.{needs}
 use Rattle.scope.specs.Positions.Bits.{has}
-use Rattle.leaves.proofs.MarkedBytes.{has-range}
-use Rattle.leaves.proofs.marks.bits.Statement.{statement}
-use Rattle.leaves.proofs.marks.bits.Tie as tie
+use Rattle.leaves.proofs.GrownSets.{has-range}
+use Rattle.leaves.proofs.byte_set.bits.Statement.{statement}
+use Rattle.leaves.proofs.byte_set.bits.Tie as tie
 
 module _ (first last : ℕ) (p : first ≤ last) (q : last < 8) where
   one : 1 * 2 ^ first % 2 ^ 64 ≡ 2 ^ first

@@ -8,13 +8,14 @@ use mathlib.Core.Bool.{Bool, true, false, cond}
 use mathlib.Core.List.{List}
 use native.Mathlib.Omega.{arith}
 use lib.ListN.{length}
 use Rattle.scope.specs.Bytes.{byte}
 use Rattle.scope.specs.Text.Tree.{Item, Tree}
-use Rattle.scope.specs.Text.Grammar.{hex, Escape, plain, coded, ClassByte, bare, escaped, OneItem, one-byte, low-high, Items, last-item, more-items, a-dot, a-literal, an-escape, a-class, Level, atoms, factors, branches, exprs, Reads, single, no-byte, no-word, in-group, one-atom, one-star, one-factor, next-factor, one-branch, next-branch}
+use Rattle.scope.specs.Text.Grammar.{hex, Escape, plain, coded, ClassByte, bare, escaped, OneItem, one-byte, low-high, Items, last-item, more-items, a-dot, a-literal, an-escape, a-class, Level, atoms, factors, branches, exprs, Reads, single, no-byte, no-word, in-group, one-atom, one-mark, one-factor, next-factor, one-branch, next-branch}
 use Rattle.scope.specs.Text.Judge.{Legal}
 use Rattle.scope.specs.Tests.{Tests}
 use Rattle.scope.proofs.Counting.Tests.{itself, equals, below}
-use Rattle.scope.specs.Text.Modes.{Piece, atom, low, high, await, done, back, code, digit, State, stuck, at, afterAtom, bareIn, opens, begins, again, closes, ends, empties, step, runTo}
+use Rattle.scope.proofs.Text.Marks.{marks}
+use Rattle.modes.specs.Modes.{Piece, atom, low, high, await, done, back, code, digit, State, stuck, at, afterAtom, bareIn, opens, begins, again, closes, ends, empties, step, runTo}
 
 module _ (s : List ℕ) where
   -- the bytes i .. j are an l
@@ -136,7 +137,7 @@ module _ {s : List ℕ} where
 
   finished : {n i : ℕ} {p : Piece} → Done s n p i → StateSays s (ends p n (byte s i)) (i + 1)
   finished (an-atom (factor a r)) =
-      choose (equals 42 _) (λ h. ended (an-atom (factor a (one-star r h))))
+      choose (marks _) (λ (m, h). ended (an-atom (factor a (one-mark m r h))))
       (choose (equals 124 _) (λ h. ready (for-atom (inner (λ p. barred r h) a))) (choose (equals 41 _) (grouped a r) lost))
   finished (a-low c b) =
       choose (equals 45 _) (λ h. ready (for-high c b h))

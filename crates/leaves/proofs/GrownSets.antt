@@ -1,11 +1,11 @@
--- Byte sets marked byte by byte and item by item. What is held now, with what is left to mark, is always what was held at first, with all that is to be marked.
+-- Byte sets that grow byte by byte and item by item. What is held now, with what is left to put in, is always what was held at first, with all that is to be put in.
 --   Left k s r m m′: of the bytes s, which are to come into the set number k, the bytes r are left
---   left-all, left-more, left-none: nothing is marked yet; some more is; nothing is left
+--   left-all, left-more, left-none: nothing is put in yet; some more is; nothing is left
 --   between-is, between-split, between-none, between-one: a range: what it decides; two parts of it; none; one byte
 --   has-range: the number whose bits are those of a range
---   mark-range: the bits of a range that lie in one byte were stored
---   marked-both: two sets, one after the other
---   marked-as: the same bytes under another name
+--   grown-range: the bits of a range that lie in one byte were stored
+--   grown-both: two sets, one after the other
+--   grown-as: the same bytes under another name
 use Prim.Native.Nat.{ℕ, zero, suc, _+_, _-_, _*_, _/_, _%_, _^_, _<_, _≤_}
 use mathlib.Core.Path.{_≡_, refl, sym, ap, ap₂, _∙_}
 use mathlib.Core.Bool.{Bool, false, _&&_, _||_, and-false, or-false, or-assoc, and-or-distrib-left}
@@ -29,7 +29,7 @@ use Rattle.scope.proofs.Positions.Bits.{has-or, has-half, has-ones, has-small}
 use Rattle.scope.proofs.Counting.Tests.{split, same-test, never, or, and, itself, equals, at-most}
 use Rattle.scope.proofs.Operations.Buffers.{all-kept, tail-then}
 use Rattle.sets.specs.Layout.{byteSet, byteSets, held}
-use Rattle.leaves.specs.MarkedBytes.{Marked}
+use Rattle.leaves.specs.GrownSets.{SetGrown}
 
 pub record Left (k : ℕ) (s r : ByteSet) (m m′ : List ℕ) : Type 0 where
   pub kept : TailKept byteSets m m′
@@ -43,15 +43,15 @@ left-all k s m = record { kept = all-kept m byteSets; bits = λ q b h. refl }
 spread : (x k a r : Bool) → (x || (k && (a || r))) ≡ ((x || (k && a)) || (k && r))
 spread x k a r = rw and-or-distrib-left (sym (or-assoc x (k && a) (k && r)))
 
--- the bytes x of those that were left are marked
-pub left-more : {k : ℕ} {s r r′ x : ByteSet} {a b c : List ℕ} → Left k s r a b → Marked k x b c → ((n : ℕ) → n < byteValues → r n ≡ (x n || r′ n)) → Left k s r′ a c
+-- the bytes x of those that were left are put in
+pub left-more : {k : ℕ} {s r r′ x : ByteSet} {a b c : List ℕ} → Left k s r a b → SetGrown k x b c → ((n : ℕ) → n < byteValues → r n ≡ (x n || r′ n)) → Left k s r′ a c
 left-more {k} {r′ = r′} {x = x} {b = b} l m e = record {
   kept = tail-then (l .kept) (m .kept);
   bits = λ q n h. ap (λ (y : Bool). y || (eqb q k && r′ n)) (m .bits q n h) ∙ sym (spread (held b q n) (eqb q k) (x n) (r′ n)) ∙ ap (λ (y : Bool). held b q n || (eqb q k && y)) (sym (e n h)) ∙ l .bits q n h;
 }
 
--- nothing is left: all is marked
-pub left-none : {k : ℕ} {s r : ByteSet} {a b : List ℕ} → Left k s r a b → ((n : ℕ) → n < byteValues → r n ≡ false) → Marked k s a b
+-- nothing is left: all is put in
+pub left-none : {k : ℕ} {s r : ByteSet} {a b : List ℕ} → Left k s r a b → ((n : ℕ) → n < byteValues → r n ≡ false) → SetGrown k s a b
 left-none {k} {b = b} l e = record {
   kept = l .kept;
   bits = λ q n h. sym (rw and-false (or-false (held b q n))) ∙ ap (λ (y : Bool). held b q n || (eqb q k && y)) (sym (e n h)) ∙ l .bits q n h;
@@ -126,10 +126,10 @@ misses : (q k b c n : ℕ) → c / 8 ≡ b / 8 → (q * byteSet + n / 8 ≡ k * 
 misses q k b c n g ne = same (and (equals q k) (between-is b c n)) (never (λ x. x)) (λ x. ne (omega (arith, x .0, x .1 .0, x .1 .1))) (λ x. absurd x)
 
 -- the bits of the bytes b to c, which lie in one byte, were stored
-pub mark-range : (k b c v : ℕ) (m : List ℕ) → k < positionLimit → byteSets ≤ length m → b < byteValues → c / 8 ≡ b / 8 → ((n : ℕ) → has v n ≡ between (b % 8) (c % 8) n)
-    → Marked k (between b c) m (set m (k * byteSet + b / 8) (bitOr (getD m (k * byteSet + b / 8) 0) v))
+pub grown-range : (k b c v : ℕ) (m : List ℕ) → k < positionLimit → byteSets ≤ length m → b < byteValues → c / 8 ≡ b / 8 → ((n : ℕ) → has v n ≡ between (b % 8) (c % 8) n)
+    → SetGrown k (between b c) m (set m (k * byteSet + b / 8) (bitOr (getD m (k * byteSet + b / 8) 0) v))
 unfolding held
-mark-range k b c v m h l hb g ev = record {
+grown-range k b c v m h l hb g ev = record {
   kept = record { size = simp length-set; outside = λ i z. getD-set-other m (k * byteSet + b / 8) i _ 0 (λ e. omega arith) };
   bits = λ q n hn. at q n hn (ℕ-discrete (q * byteSet + n / 8) (k * byteSet + b / 8));
 }
@@ -144,10 +144,10 @@ mark-range k b c v m h l hb g ev = record {
 -- ---- one after the other
 
 -- the bytes of two sets
-pub marked-both : {k : ℕ} {s t u : ByteSet} {a b c : List ℕ} → Marked k s a b → Marked k t b c → ((n : ℕ) → n < byteValues → u n ≡ (s n || t n)) → Marked k u a c
-marked-both {k} {t = t} {u = u} {a = a} x y e = left-none (left-more {r′ = λ n. false} (left-more (left-all k u a) x e) y (λ n h. sym (or-false (t n)))) (λ n h. refl)
+pub grown-both : {k : ℕ} {s t u : ByteSet} {a b c : List ℕ} → SetGrown k s a b → SetGrown k t b c → ((n : ℕ) → n < byteValues → u n ≡ (s n || t n)) → SetGrown k u a c
+grown-both {k} {t = t} {u = u} {a = a} x y e = left-none (left-more {r′ = λ n. false} (left-more (left-all k u a) x e) y (λ n h. sym (or-false (t n)))) (λ n h. refl)
 
 -- ---- another name
 
-pub marked-as : {k : ℕ} {s s′ : ByteSet} {m m′ : List ℕ} → Marked k s m m′ → ((n : ℕ) → n < byteValues → s n ≡ s′ n) → Marked k s′ m m′
-marked-as {k} {m = m} x e = record { kept = x .kept; bits = λ q n h. x .bits q n h ∙ ap (λ (y : Bool). held m q n || (eqb q k && y)) (e n h) }
+pub grown-as : {k : ℕ} {s s′ : ByteSet} {m m′ : List ℕ} → SetGrown k s m m′ → ((n : ℕ) → n < byteValues → s n ≡ s′ n) → SetGrown k s′ m m′
+grown-as {k} {m = m} x e = record { kept = x .kept; bits = λ q n h. x .bits q n h ∙ ap (λ (y : Bool). held m q n || (eqb q k && y)) (e n h) }

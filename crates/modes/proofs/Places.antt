@@ -14,14 +14,14 @@ use native.Mathlib.Numerals.{add-one}
 use native.Mathlib.Omega.{arith}
 use lib.ListN.{length, take, drop, take-append-drop}
 use lib.Seq.{take-suc, take-length}
 use Rattle.scope.specs.Limits.{byteValues}
-use Rattle.scope.specs.Text.Grammar.{literal, escapable, classLiteral, hex}
+use Rattle.scope.specs.Text.Grammar.{literal, escapable, classLiteral, isMark, hex}
 use Rattle.scope.specs.Text.Judge.{Legal, Viable, SyntaxAt}
 use Rattle.scope.proofs.Counting.Tests.{which}
 use Rattle.scope.proofs.Text.Judge.{syntax-at}
-use Rattle.scope.specs.Text.Modes.{Piece, atom, low, high, Mode, await, done, back, code, digit, State, stuck, at, initial, isStuck, afterAtom, step, runModes, runTo}
-use Rattle.scope.proofs.Text.Drives.{legal-runs}
-use Rattle.scope.proofs.Text.Builds.{runs-legal}
+use Rattle.modes.specs.Modes.{Piece, atom, low, high, Mode, await, done, back, code, digit, State, stuck, at, initial, isStuck, afterAtom, step, runModes, runTo}
+use Rattle.modes.proofs.Drives.{legal-runs}
+use Rattle.modes.proofs.Builds.{runs-legal}
 
 -- ---- the run over a list
 
@@ -63,7 +63,7 @@ completion (code p) n = 48 ∷ 48 ∷ ending p n
 completion (digit p) n = 48 ∷ ending p n
 
 closes-all : (n : ℕ) → runModes (at afterAtom n) (closing n) ≡ at afterAtom 0
-unfolding literal
+unfolding literal isMark
 closes-all zero = refl
 closes-all (suc n) = closes-all n
 
