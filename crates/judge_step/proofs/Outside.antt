@@ -3,17 +3,16 @@
 --   nest-state: a parenthesis opens
 --   begin-..: an atom may begin; atom-awaited: where it is awaited; mark-taken, bar-taken, close-.., atom-else: where one is done
 --   at-..: by the stage
-use Prim.Native.Nat.{ℕ, zero, suc, _+_, _-_, _<_, _≤_}
+use Prim.Native.Nat.{ℕ, zero, suc, _+_, _-_, _<_}
 use Prim.Native.Char.{code}
 use mathlib.Core.Path.{_≡_, refl, sym, _∙_}
 use mathlib.Core.Bool.{true, false}
-use mathlib.Core.Logic.{_⊎_, inl, inr}
 use native.Mathlib.Omega.{arith}
 use native.Mathlib.Numerals.{add-one}
 use Rattle.scope.specs.Text.Grammar.{literal, isMark}
 use Rattle.modes.specs.Modes.{atom, await, back, digit, stuck, at, afterAtom, closes}
 use Rattle.modes.specs.Modes as mode
-use Rattle.modes.proofs.MarkSteps.{mark-begins, mark-step, mark-notes}
+use Rattle.modes.proofs.MarkSteps.{mark-step, mark-notes}
 use Rattle.judge_state.specs.Reading.{pieceOf, stateOf, standing, ReadAs}
 use Rattle.judge_state.specs.declared.Reading.{Reading}
 use Rattle.judge_state.proofs.Keeps.{kept-since}

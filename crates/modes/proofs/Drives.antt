@@ -4,7 +4,7 @@
 -- state and for the notes.
 --   legal-runs: on a legal text the machine ends after an atom, with nothing open
 --   NotedAll, legal-notes: what is noted at the end of a legal text
-use Prim.Native.Nat.{ℕ, zero, suc, _+_, _*_, _<_}
+use Prim.Native.Nat.{ℕ, suc, _+_, _*_, _<_}
 use Prim.Native.Char.{code}
 use mathlib.Core.Path.{_≡_, refl, _∙_}
 use mathlib.Core.List.{List, [], _∷_, _++_, append-assoc, append-nil}

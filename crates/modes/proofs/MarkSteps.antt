@@ -1,5 +1,4 @@
 -- A mark begins no atom. After one the machine goes on as it stood, and nothing is noted.
---   mark-begins: where an atom may begin, it does not with a mark
 --   mark-step, mark-notes: the state after a mark, and what is noted
 use Prim.Native.Nat.{ℕ}
 use mathlib.Core.Path.{_≡_, refl, _∙_}
@@ -10,7 +9,7 @@ use Rattle.modes.specs.Modes.{atom, State, at, afterAtom, begins, next}
 use Rattle.modes.specs.Notes.{Sheet, begun}
 
 module _ (b : ℕ) (h : isMark b ≡ true) where
-  pub mark-begins : (n : ℕ) (x : State) → begins atom n b x ≡ x
+  mark-begins : (n : ℕ) (x : State) → begins atom n b x ≡ x
   unfolding literal
   mark-begins n x = each-mark (λ c. begins atom n c x ≡ x) refl refl refl h
 

@@ -6,7 +6,8 @@
 -- A count is enough for what nests: after a `)` the text goes on as after any atom, whatever was read before its `(`.
 -- A byte that can't come leads to `stuck`. That is a state too, so each step has a result and a run needs no premise; no byte leads out of it.
 -- In each step the sets of bytes are tested first, and single bytes after them. Where a byte is known to be in the set, the first test decides; where it is
--- known by its value, all tests compute. So no proof has to show that a set and a single byte don't meet.
+-- known by its value, all tests compute. So no proof has to show that a set and a single byte don't meet. Marks come after what begins an atom: that
+-- none of them begins one is shown once (`MarkSteps`).
 --   Piece, Mode, State: a state is a mode with the number of open parentheses, or stuck; initial: the first one; isStuck: its test
 --   begins p n b x: after the byte b, where p may begin; x, if it does not
 --   ends p n b: after the byte b, where p is done and no next piece begins

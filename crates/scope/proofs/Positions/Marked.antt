@@ -5,7 +5,7 @@
 --   follow-maybe: what follows in F? is what follows in F
 use Prim.Native.Nat.{ℕ}
 use mathlib.Core.Path.{_≡_, refl}
-use mathlib.Core.Logic.{inl, inr}
+use mathlib.Core.Logic.{inl}
 use mathlib.Core.Bool.{Bool, true, false, _&&_, _||_, or-true}
 use native.Mathlib.Nat.{add-zero}
 use lib.Bits.{bitOr, or-zero-r}

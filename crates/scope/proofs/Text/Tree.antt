@@ -11,9 +11,9 @@ use native.Mathlib.Omega.{arith}
 use lib.ListN.{length, List·getD-eq-default}
 use Rattle.scope.specs.Bytes.{byte}
 use Rattle.scope.specs.Text.Tree.{Leaf, Mark, Tree, nothing, empty, position, group, marked, beside, either}
-use Rattle.scope.specs.Text.Grammar.{literal, escapable, isMark, markByte, Single, a-dot, a-literal, an-escape, a-class, Level, atoms, factors, branches, exprs, Reads, single, no-byte, no-word, in-group, one-atom, one-mark, one-factor, next-factor, one-branch, next-branch}
+use Rattle.scope.specs.Text.Grammar.{escapable, isMark, markByte, Single, Level, atoms, factors, branches, exprs, Reads, single, no-byte, no-word, in-group, one-atom, one-mark, one-factor, next-factor, one-branch, next-branch}
 use Rattle.scope.specs.Text.Judge.{Pattern}
-use Rattle.scope.proofs.Text.Grammar.{other, escape-head, single-one, single-group, single-back}
+use Rattle.scope.proofs.Text.Grammar.{other, single-one, single-group, single-back}
 use Rattle.scope.proofs.Text.Marks.{mark-one, unmarked}
 use Rattle.scope.proofs.Text.Begins.{startsAtom, reads-begins, not-mark}
 

@@ -14,6 +14,7 @@ use mathlib.Core.Logic.{_⊎_}
 use mathlib.Core.List.{List, [], _∷_}
 use Rattle.scope.specs.Text.Re.{Re, none, eps, one, alt, cat, star, plus, size}
 
+-- 02, C-11: "F+ is nullable exactly if F is"
 abbrev pub Null : Re → Type 0
 Null none = ⊥
 Null eps = Unit {0}
@@ -44,6 +45,7 @@ Last (star e) k p = Last e k p
 Last (plus e) k p = Last e k p
 
 -- "Follow adds First(G) after each of Last(F). In F*: nullable, and Follow adds First(F) after each of Last(F)."
+-- 02, C-11: "Follow of F+ adds First(F) after Last(F)"
 abbrev pub Follow : Re → ℕ → ℕ → ℕ → Type 0
 Follow none k p q = ⊥
 Follow eps k p q = ⊥

@@ -1,6 +1,6 @@
 -- The pattern language, byte by byte. In each family i is the place where the thing begins, and the next number the place after it.
 --   twelve, literal, escapable, classLiteral: the bytes that 01 names
---   isMark, markByte m: the bytes that are marks; the byte of the mark m
+--   markByte m, isMark: the byte of the mark m; those that are marks
 --   hex b: the value of a hex digit; 16 if b is none
 --   Escape s i j b: an escape that is the byte b
 --   ClassByte s i j b: a byte in a class
@@ -36,15 +36,15 @@ unfoldable pub classLiteral : ByteSet
 unfolding between isIn
 classLiteral b = between 0x20 0x7E b && not (isIn (ascii "[]\\-^") b)
 
--- "`+` and `?` after a factor, as `*` is"
-unfoldable pub isMark : ByteSet
-unfolding isIn
-isMark b = isIn (ascii "*+?") b
-
+-- 02, C-11: "`+` and `?` after a factor, as `*` is"
 abbrev pub markByte : Mark → ℕ
 markByte many = code "*"
 markByte some = code "+"
 markByte maybe = code "?"
+
+unfoldable pub isMark : ByteSet
+unfolding isIn
+isMark b = isIn (ascii "*+?") b
 
 -- "hex digits of either case"
 unfoldable pub hex : ℕ → ℕ
@@ -94,7 +94,7 @@ module _ (s : List ℕ) where
     no-word : {i : ℕ} → byte s i ≡ code "\\" → byte s (i + 1) ≡ code "0" → Reads atoms i (i + 2) nothing
     -- "An atom may be an expression again, in parentheses"
     in-group : {i j : ℕ} {t : Tree} → byte s i ≡ code "(" → Reads exprs (i + 1) j t → byte s j ≡ code ")" → Reads atoms i (j + 1) (group i t)
-    -- "A factor is an atom and then any number of `*`"; of `+` and `?` too, "mixed in any number"
+    -- "A factor is an atom and then any number of `*`." 02, C-11: of `+` and `?` too, "mixed in any number"
     one-atom : {i j : ℕ} {t : Tree} → Reads atoms i j t → Reads factors i j t
     one-mark : {i j : ℕ} {t : Tree} (m : Mark) → Reads factors i j t → byte s j ≡ markByte m → Reads factors i (j + 1) (marked m t)
     -- "A branch is one or more factors, side by side."

@@ -29,7 +29,7 @@ pub data Leaf : Type 0 where
   letter : ℕ → Leaf
   class : List Item → Leaf
 
--- `*`, `+`, `?`
+-- `*`, `+` and `?`
 pub data Mark : Type 0 where
   many some maybe : Mark
 
@@ -64,7 +64,7 @@ setOf dot b = dotSet b
 setOf (letter c) b = eqb b c
 setOf (class l) b = itemsSet l b
 
--- "F+ is F·F*, F? is F or the empty word"
+-- 02, C-11: "F+ is F·F*, F? is F or the empty word, and neither copies a position"
 abbrev pub marking : Mark → Re → Re
 marking many e = star e
 marking some e = plus e
