@@ -6,6 +6,7 @@ use second::answer::*;
 use second::derive::Language;
 use second::judge::{judge, longest_viable, viable};
 use second::machine::Machine;
+use second::matching::{answer_by, live};
 use second::pairs::{rounds, separation, Apart};
 use second::smallest::{joined, numbered, smallest, twice_reversed};
 use second::{canonical, limits, sound};
@@ -18,9 +19,11 @@ fn both(pattern: &[u8]) -> Option<(Language, Machine)> {
 
 fn agree(pattern: &[u8], texts: &mut dyn Iterator<Item = Vec<u8>>) {
     if let Some((mut language, machine)) = both(pattern) {
-        let room = machine.room();
+        // The room is read, and its live states are found, once for all texts.
+        let read = Machine::read(&machine.room()).expect("sound");
+        let live = live(&read);
         for text in texts {
-            let answer = second::match_text(&room, &text);
+            let answer = answer_by(&read, &live, &text);
             assert_eq!(answer, language.answer(&text), "{}", pattern.escape_ascii());
             assert_eq!(answer.0 == ACCEPTED, language.has(&text));
             assert_eq!(answer.0 == ACCEPTED, machine.marks[machine.run(&text)]);
