@@ -45,7 +45,7 @@ pub fn is_bare(b: u8) -> bool
     is_in(b, b' ', b',') | is_in(b, b'.', b'Z') | is_in(b, b'_', b'~')
 }
 
-// Whether b is a mark: `*`, `+` or `?`. What is read past the end of a text is a number, but no byte.
+// Whether b is a mark: `*`, `+` or `?`. Readers ask it of 256 too, which stands for the end of a text.
 pub fn is_mark(b: usize) -> bool
     ensures { λ r. ⌜ r ≡ isMark b ⌝ }
 {

@@ -55,7 +55,7 @@ fn rest() -> String {
             format!(r"[{control}\x40-\x4C\x4E-\x5A\x5C-\xFF]"),
             format!(r"|\[[{control}\x20-\xFF]"),
             format!(r"|M{place}{place}{place}"),
-            format!(r"|[0-9][0-9]*(\x24|{last}|[\x20-\x23\x25-\x2F\x3A-\x3F][\x20-\x3F]*{last})"),
+            format!(r"|[0-9]+(\x24|{last}|[\x20-\x23\x25-\x2F\x3A-\x3F][\x20-\x3F]*{last})"),
             format!(r"|[\x20-\x2F\x3A-\x3F][\x20-\x3F]*{last})"),
         ]
         .concat(),

@@ -106,7 +106,7 @@ star-begins : {e : Re} {k : ℕ} {u v : List ℕ} → Begins e k u → Begins (s
 star-begins (stop n) m g = m
 star-begins (on i a t) m g = on i a (split t g)
 
--- F·F*: without the byte of its first factor, if that is empty
+-- as its word of F does, or as that of F*, if the one of F is empty
 plus-begins : {e : Re} {k : ℕ} {u v : List ℕ} → Begins e k u → Begins (star e) k v → Words (star e) v → Begins (plus e) k (u ++ v)
 plus-begins (stop n) (stop m) g = stop n
 plus-begins (stop n) (on i a t) g = on i a t

@@ -1,9 +1,9 @@
 -- The marks after a factor, by their bytes.
---   marks: a byte is a mark, if it is that of one
+--   marks: the test for a mark has exactly the bytes of marks
 --   mark-one: marks with the same byte are the same
 --   unmarked: a byte that is no mark is that of none
 --   each-mark: what holds of the three bytes holds of every mark
---   mark-other: a set that has none of them has no mark
+--   mark-other: a byte of a set that has none of the three is no mark
 use Prim.Native.Nat.{ℕ}
 use Prim.Native.Char.{code}
 use mathlib.Core.Path.{_≡_, refl, sym, subst, _∙_}

@@ -42,6 +42,7 @@ markByte many = code "*"
 markByte some = code "+"
 markByte maybe = code "?"
 
+-- the bytes of the three marks
 unfoldable pub isMark : ByteSet
 unfolding isIn
 isMark b = isIn (ascii "*+?") b

@@ -93,6 +93,7 @@ fn a_wrong_form_is_refused_with_its_place() {
         (other("'check value'", "''"), line("a label is empty")),
         (pattern("[0-9"), refused("[0-9", 4, early)),
         (pattern("ab|[z-a]"), refused("ab|[z-a]", 5, range)),
+        (pattern("[0-9]+|?"), refused("[0-9]+|?", 7, never)),
         // Of a long pattern what is near to the place.
         (
             pattern(&format!("{a}(b{c}")),
