@@ -1,6 +1,7 @@
 -- A part is right for its expression: a law for each rule of the sets. The equations of the code are those of the definitions; unions are regrouped.
 --   right-within: no position of a part is above its count
 --   right-alone, right-empty, right-nothing, right-moved, right-marked, right-beside, right-either: the part of each kind of expression
+--   after-empty, or-nothing: an expression after the empty word, and one joined with no word at all, have its own sets
 use Prim.Native.Nat.{ℕ, _+_, _^_, _<_}
 use mathlib.Core.Path.{_≡_, refl, sym, ap, ap₂, _∙_}
 use mathlib.Core.Bool.{Bool, true, false, _&&_, _||_, and-comm, or-false, or-assoc}
@@ -135,3 +136,31 @@ module _ {e f : Re} {k : ℕ} {y y′ y″ w w′ w″ : List ℕ} {a b r : Frag
         };
         holds = holds-both (cat e f) (x .holds) (v .holds) (λ n. refl);
       }
+
+-- ---- what changes no set
+
+module _ {e f : Re} {k : ℕ} {y y′ w w′ : List ℕ} {g : Fragment} where
+  -- the same sets
+  right-as : size e ≡ size f → null e ≡ null f → first e k ≡ first f k → last e k ≡ last f k → ((p : ℕ) → follow e k p ≡ follow f k p) → ((b : ℕ) → holders e k b ≡ holders f k b)
+      → Right e k y y′ w w′ g → Right f k y y′ w w′ g
+  right-as s n a z o h x = record {
+    counts = x .counts ∙ ap (λ (m : ℕ). k + m) s;
+    nulls = x .nulls ∙ n;
+    firsts = x .firsts ∙ a;
+    lasts = x .lasts ∙ z;
+    follows = record { kept = x .follows .kept; sets = λ p. x .follows .sets p ∙ ap (bitOr (setAt w p)) (o p) };
+    holds = record { kept = x .holds .kept; bits = λ q b l. x .holds .bits q b l ∙ ap (λ (m : ℕ). held y q b || has m (q + 1)) (h b) };
+  }
+
+given-none : (c : Bool) → given c 0 ≡ 0
+given-none true = refl
+given-none false = refl
+
+module _ {f : Re} {k : ℕ} {y y′ w w′ : List ℕ} {g : Fragment} where
+  pub after-empty : Right (cat eps f) k y y′ w w′ g → Right f k y y′ w w′ g
+  unfolding null first last follow holders
+  after-empty = right-as (omega arith) refl (simp add-zero) (simp (given-none, or-zero-r, add-zero)) (λ p. simp (has-zero, or-zero-r, add-zero)) (λ b. simp add-zero)
+
+  pub or-nothing : Right (alt none f) k y y′ w w′ g → Right f k y y′ w w′ g
+  unfolding null first last follow holders
+  or-nothing = right-as (omega arith) refl (simp add-zero) (simp add-zero) (λ p. simp add-zero) (λ b. simp add-zero)

@@ -3,8 +3,8 @@
 --   Fit s w g: the part g lies in the text, and its positions are those up to its count
 --   ReadTree t k y y′ w w′ g j: the part g is that of the tree t, which ends at j
 --   Answer l s i k y y′ w w′ g: g is the part of every l that can be read at i
---   Going l s k y y′ w w′ g u j: g is a first part of the l with the tree u that ends at j
---   Carried l s y w g y′ w′ g′: whatever g was a first part of, g′ is one of it, too
+--   Marking s k y y′ w w′ g u j: g is a first part of the factor with the tree u that ends at j: some of its marks are left
+--   Carried s y w g y′ w′ g′: whatever g was a first part of, g′ is one of it, too
 --   WithMarks s w g w′ g′: g′ is g with the marks after it
 use Prim.Native.Nat.{ℕ, _+_, _<_, _≤_}
 use mathlib.Core.Path.{_≡_}
@@ -20,7 +20,7 @@ use Rattle.scope.specs.Text.Tree.{Tree, expr}
 use Rattle.sets.specs.Value.{setBits, setValue}
 use Rattle.fragments.specs.declared.Fragment.{Fragment}
 use Rattle.sets.specs.Layout.{wordSets}
-use Rattle.factors.specs.Tails.{EndsLevel, WholeLevel, Tail}
+use Rattle.factors.specs.Tails.{EndsLevel, WholeLevel, MarksLeft}
 use Rattle.factors.specs.Right.{Right}
 
 pub record Readable (l : Level) (k : ℕ) (s : List ℕ) (i : ℕ) : Type 0 where
@@ -47,16 +47,16 @@ pub record Answer (l : Level) (s : List ℕ) (i k : ℕ) (y y′ w w′ : List �
   pub inside : g .next ≤ length s
   pub says : (j : ℕ) (t : Tree) → WholeLevel l s i j t → ReadTree t k y y′ w w′ g j
 
-pub record Going (l : Level) (s : List ℕ) (k : ℕ) (y y′ w w′ : List ℕ) (g : Fragment) (u : Tree) (j : ℕ) : Type 0 where
+pub record Marking (s : List ℕ) (k : ℕ) (y y′ w w′ : List ℕ) (g : Fragment) (u : Tree) (j : ℕ) : Type 0 where
   pub tree : Tree
   pub right : Right (expr tree) k y y′ w w′ g
-  pub tail : Tail s l tree (g .next) u j
+  pub left : MarksLeft s tree (g .next) u j
 
-pub record Carried (l : Level) (s y w : List ℕ) (g : Fragment) (y′ w′ : List ℕ) (g′ : Fragment) : Type 0 where
-  pub says : (k : ℕ) (y₀ w₀ : List ℕ) (u : Tree) (j : ℕ) → EndsLevel l (byte s j) → Going l s k y₀ y w₀ w g u j → Going l s k y₀ y′ w₀ w′ g′ u j
+pub record Carried (s y w : List ℕ) (g : Fragment) (y′ w′ : List ℕ) (g′ : Fragment) : Type 0 where
+  pub says : (k : ℕ) (y₀ w₀ : List ℕ) (u : Tree) (j : ℕ) → EndsLevel factors (byte s j) → Marking s k y₀ y w₀ w g u j → Marking s k y₀ y′ w₀ w′ g′ u j
 
 pub record WithMarks (s w : List ℕ) (g : Fragment) (w′ : List ℕ) (g′ : Fragment) : Type 0 where
   pub on : g .next ≤ g′ .next
   pub inside : g′ .next ≤ length s
   pub ends : EndsLevel factors (byte s (g′ .next))
-  pub says : (y : List ℕ) → Carried factors s y w g y w′ g′
+  pub says : (y : List ℕ) → Carried s y w g y w′ g′

@@ -1,9 +1,9 @@
--- A reading of the grammar from its first part on. The grammar recurses on the left, a reader goes from left to right: it has read a part, and a tail is left.
+-- What can be read at a place. The grammar recurses on the left, a reader goes from left to right: it has read an atom and some marks, and others are left.
 --   GroupAt s i: there is a `(` at i
 --   closesExpr, stops: the bytes that end an expression, and those that end a branch; the end of the text is one of them
 --   EndsLevel l b: an l does not go on with the byte b
 --   WholeLevel l s i j t: an l, with the tree t, that does not go on
---   Tail s l t j u k: the tree t was read up to j; what is left makes it the l with the tree u, up to k
+--   MarksLeft s t j u k: the tree t was read up to j; the marks that are left make it the factor with the tree u, up to k
 use Prim.Native.Nat.{ℕ, _+_}
 use Prim.Native.Char.{code}
 use mathlib.Core.Path.{_≡_}
@@ -13,7 +13,7 @@ use lib.Dec.{eqb}
 use Rattle.scope.specs.Bytes.{ByteSet, byte}
 use Rattle.scope.specs.Text.Grammar.{isMark, markByte, Level, atoms, factors, branches, exprs, Reads}
 use Rattle.scope.specs.Limits.{byteValues}
-use Rattle.scope.specs.Text.Tree.{Mark, Tree, marked, beside, either}
+use Rattle.scope.specs.Text.Tree.{Mark, Tree, marked}
 
 abbrev pub GroupAt : List ℕ → ℕ → Type 0
 GroupAt s i = byte s i ≡ code "("
@@ -34,8 +34,6 @@ EndsLevel exprs b = closesExpr b ≡ true
 abbrev pub WholeLevel : Level → List ℕ → ℕ → ℕ → Tree → Type 0
 WholeLevel l s i j t = Reads s l i j t × EndsLevel l (byte s j)
 
-pub data Tail (s : List ℕ) : Level → Tree → ℕ → Tree → ℕ → Type 0 where
-  done : {l : Level} {t : Tree} {j : ℕ} → Tail s l t j t j
-  a-mark : {t u : Tree} {j k : ℕ} (m : Mark) → byte s j ≡ markByte m → Tail s factors (marked m t) (j + 1) u k → Tail s factors t j u k
-  a-factor : {t u f : Tree} {j k m : ℕ} → WholeLevel factors s j m f → Tail s branches (beside t f) m u k → Tail s branches t j u k
-  a-branch : {t u f : Tree} {j k m : ℕ} → byte s j ≡ code "|" → WholeLevel branches s (j + 1) m f → Tail s exprs (either t f) m u k → Tail s exprs t j u k
+pub data MarksLeft (s : List ℕ) : Tree → ℕ → Tree → ℕ → Type 0 where
+  done : {t : Tree} {j : ℕ} → MarksLeft s t j t j
+  a-mark : {t u : Tree} {j k : ℕ} (m : Mark) → byte s j ≡ markByte m → MarksLeft s (marked m t) (j + 1) u k → MarksLeft s t j u k

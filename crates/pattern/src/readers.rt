@@ -1,6 +1,5 @@
 // Four readers that call each other while the remaining bytes fall. Each takes what the text has at a place, and answers with its part; it requires that there is
 // something to read, so it never refuses. A judged text has at most 32 nested parentheses: at most 33 calls of each reader are open at a time.
-ghost use mathlib.Core.Bool.{not};
 ghost use mathlib.Core.Path.{_≡_};
 ghost use Rattle.scope.specs.Text.Grammar.{atoms, factors, branches, exprs};
 ghost use Rattle.factors.specs.Tails.{stops};
@@ -10,6 +9,7 @@ use factors::leaf;
 use factors::marks;
 use fragments::Fragment;
 use fragments::beside;
+use fragments::blank;
 use fragments::either;
 use fragments::link;
 use fragments::moved;
@@ -19,11 +19,11 @@ use leaves::text::END;
 use leaves::text::OPEN;
 use leaves::text::byte_at;
 
-// Whether a branch goes on with b.
-fn goes_on(b: usize) -> bool
-    ensures { λ r. ⌜ r ≡ not (stops b) ⌝ }
+// Whether a branch ends before the byte b.
+fn ends_branch(b: usize) -> bool
+    ensures { λ r. ⌜ r ≡ stops b ⌝ }
 {
-    !((b == CLOSE) | (b == END) | (b == BAR))
+    (b == CLOSE) | (b == END) | (b == BAR)
 }
 
 // An atom: an expression in parentheses, or a leaf.
@@ -53,13 +53,15 @@ fn branch(text: &[u8], at: usize, count: usize, bytes: &mut [u8], words: &mut [u
     requires { ⌜ Readable branches count (now text) at × Rooms (now bytes) (now words) ⌝ }
     ensures { λ r. ⌜ Answer branches (now (text .entry)) at count (now (bytes .entry)) (now (bytes .exit)) (now (words .entry)) (now (words .exit)) r ⌝ }
 {
-    let mut all = factor(text, at, count, bytes, words);
-    while goes_on(byte_at(text, all.next)) {
+    let mut all = blank(at, count, true);
+    loop {
         let next = factor(text, all.next, all.count, bytes, words);
         link(words, all.count, all.last, next.first);
         all = beside(all, next);
+        if ends_branch(byte_at(text, all.next)) {
+            return all;
+        }
     }
-    all
 }
 
 // An expression: branches joined by `|`.
@@ -67,10 +69,13 @@ pub fn expr(text: &[u8], at: usize, count: usize, bytes: &mut [u8], words: &mut 
     requires { ⌜ Readable exprs count (now text) at × Rooms (now bytes) (now words) ⌝ }
     ensures { λ r. ⌜ Answer exprs (now (text .entry)) at count (now (bytes .entry)) (now (bytes .exit)) (now (words .entry)) (now (words .exit)) r ⌝ }
 {
-    let mut all = branch(text, at, count, bytes, words);
-    while byte_at(text, all.next) == BAR {
-        let next = branch(text, all.next + 1, all.count, bytes, words);
+    let mut all = blank(at, count, false);
+    loop {
+        let next = branch(text, all.next, all.count, bytes, words);
         all = either(all, next);
+        if byte_at(text, all.next) != BAR {
+            return all;
+        }
+        all = moved(all, all.next + 1, all.null);
     }
-    all
 }

@@ -5,7 +5,7 @@ use mathlib.Core.Path.{_≡_, refl, ap, _∙_}
 use native.Mathlib.Omega.{arith}
 use borrow.Author.Needs.{needs}
 use lib.ListN.{length}
-use Rattle.scope.specs.Text.Grammar.{isMark, factors}
+use Rattle.scope.specs.Text.Grammar.{isMark}
 use Rattle.factors.specs.Answer.{Fit, Carried}
 use Rattle.factors.proofs.ReadsIn.{mark-told, mark-inside}
 use Rattle.factors.proofs.Carried.{carried-none, carried-more, mark-fit, mark-turn}
@@ -13,13 +13,13 @@ use Rattle.factors.proofs.marks.Statement.{statement}
 use Rattle.factors.proofs.marks.Tie as tie
 
 abbrev Inv-loop : tie.InvT-loop
-Inv-loop text words₀ all₀ words all = (all₀ .next ≤ all .next) × (length words ≡ length words₀) × Fit text words all × ((y : List ℕ) → Carried factors text y words₀ all₀ y words all)
+Inv-loop text words₀ all₀ words all = (all₀ .next ≤ all .next) × (length words ≡ length words₀) × Fit text words all × ((y : List ℕ) → Carried text y words₀ all₀ y words all)
 
 abbrev μ-loop : tie.MeasureT-loop
 μ-loop text words₀ all₀ words all = length text - all .next
 
 loop-holds : tie.Need-loop-holds Inv-loop μ-loop
-loop-holds c = (search needs, refl, c .before .before .pre, λ y. carried-none _ _ _ _ _)
+loop-holds c = (search needs, refl, c .before .before .pre, λ y. carried-none _ _ _ _)
 
 marked-requires : tie.Need-marked-requires Inv-loop μ-loop
 marked-requires c κs = let f = c .before .before .before .before .before .before .loop .inv .2 in ((f .few, f .words), f .within)

@@ -7,16 +7,19 @@
 -- where the next byte ends the branch or the expression, what was read is all of it.
 use borrow.Author.Needs.{needs}
 use Prim.Native.Nat.{ℕ, _+_, _*_, _-_, _<_, _≤_}
-use mathlib.Core.Path.{_≡_, refl, sym, _∙_}
+use mathlib.Core.Path.{_≡_, refl, sym, ap, _∙_}
+use mathlib.Core.Bool.{false≢true}
 use native.Mathlib.Omega.{arith}
 use lib.ListN.{length}
+use Rattle.scope.specs.Bytes.{byte}
 use Rattle.scope.specs.Text.Grammar.{branches, exprs}
-use Rattle.factors.specs.Answer.{Carried}
-use Rattle.pattern.proofs.Tails.{first-branch, first-expr, ready-atom, ready-factor, ready-branch}
-use Rattle.factors.proofs.Carried.{carried-none, carried-more}
+use Rattle.pattern.specs.Parts.{Begun}
+use Rattle.pattern.proofs.Tails.{ready-atom, ready-part}
 use Rattle.pattern.proofs.Groups.{ready-inner, answer-inner}
-use Rattle.factors.proofs.Rights.{right-within}
-use Rattle.pattern.proofs.Turns.{factor-fit, factor-found, going, going-small, going-found, factor-last, branch-last, factor-ready, branch-ready, is-on, is-off, factor-turn, branch-turn}
+use Rattle.factors.specs.Tails.{stops}
+use Rattle.leaves.proofs.ByteByByte.{inside}
+use Rattle.factors.proofs.Rights.{right-within, right-moved}
+use Rattle.pattern.proofs.Turns.{factor-fit, factor-found, no-factor, no-branch, going, going-small, parts-more, parts-found, join-factor, join-branch}
 use borrow.Fn.Kinds.{In}
 use borrow.Fn.PlainCycle.{Measures, is, falls, and}
 use Rattle.pattern.proofs.readers.atom.Reads as atom
@@ -34,11 +37,12 @@ use Rattle.pattern.proofs.readers.+atom+branch+expr+factor.Lts-factor a
 use Rattle.factors.proofs.leaf.Reads as leaf-reads
 use Rattle.factors.proofs.marks.Reads as marks-reads
 use Rattle.fragments.proofs.beside.Reads as beside-reads
+use Rattle.fragments.proofs.blank.Reads as blank-reads
 use Rattle.fragments.proofs.either.Reads as either-reads
 use Rattle.fragments.proofs.link.Reads as link-reads
 use Rattle.fragments.proofs.moved.Reads as moved-reads
 use Rattle.leaves.proofs.text.byte_at.Reads as byte-at-reads
-use Rattle.pattern.proofs.readers.goes_on.Reads as goes-on-reads
+use Rattle.pattern.proofs.readers.ends_branch.Reads as ends-branch-reads
 use Rattle.pattern.proofs.readers.+atom+branch+expr+factor.{statement}
 use Rattle.pattern.proofs.readers.+atom+branch+expr+factor.Tie.{close}
 
@@ -79,13 +83,13 @@ abbrev factor-below : ℕ → In 3 factor-kinds.ps
 factor-below t = and 3 factor-kinds.ps (falls 3 factor-kinds.ps _<_ μ-factor t) factor.Pre
 
 abbrev branch-Inv-loop : branch-lts.InvT-loop
-branch-Inv-loop text at count bytes₀ words₀ all₀ bytes words all = (at < all .next) × (all .next ≤ length text) × (length bytes ≡ length bytes₀) × (length words ≡ length words₀) × Carried branches text bytes₀ words₀ all₀ bytes words all
+branch-Inv-loop text at count bytes₀ words₀ all₀ bytes words all = (at ≤ all .next) × (all .next ≤ length text) × (length bytes ≡ length bytes₀) × (length words ≡ length words₀) × Begun branches text at count bytes₀ bytes words₀ words all
 
 abbrev branch-μ-loop : branch-lts.MeasureT-loop
 branch-μ-loop text at count bytes₀ words₀ all₀ bytes words all = length text - all .next
 
 abbrev expr-Inv-loop : expr-lts.InvT-loop
-expr-Inv-loop text at count bytes₀ words₀ all₀ bytes words all = (at < all .next) × (all .next ≤ length text) × (length bytes ≡ length bytes₀) × (length words ≡ length words₀) × Carried exprs text bytes₀ words₀ all₀ bytes words all
+expr-Inv-loop text at count bytes₀ words₀ all₀ bytes words all = (at ≤ all .next) × (all .next ≤ length text) × (length bytes ≡ length bytes₀) × (length words ≡ length words₀) × Begun exprs text at count bytes₀ bytes words₀ words all
 
 abbrev expr-μ-loop : expr-lts.MeasureT-loop
 expr-μ-loop text at count bytes₀ words₀ all₀ bytes words all = length text - all .next
@@ -105,40 +109,41 @@ atom-part t = atom-lts.spec (byte-at-reads.Asked, byte-at-reads.Learnt, expr-bel
     (λ c. search needs)
     (λ c. c .before .before .leaf .ensures _)
 
-branch-part : {M : Type 1} (t : ℕ) → branch-lts.Closed (factor-below t, factor.Post, byte-at-reads.Asked, byte-at-reads.Learnt, goes-on-reads.Asked, goes-on-reads.Learnt, link-reads.Asked, link-reads.Learnt, beside-reads.Asked, beside-reads.Learnt) (branch-at t) branch.Post M
-branch-part t = branch-lts.spec (factor-below t, factor.Post, byte-at-reads.Asked, byte-at-reads.Learnt, goes-on-reads.Asked, goes-on-reads.Learnt, link-reads.Asked, link-reads.Learnt, beside-reads.Asked, beside-reads.Learnt) (branch-at t)
+branch-part : {M : Type 1} (t : ℕ) → branch-lts.Closed (blank-reads.Asked, blank-reads.Learnt, factor-below t, factor.Post, link-reads.Asked, link-reads.Learnt, beside-reads.Asked, beside-reads.Learnt, byte-at-reads.Asked, byte-at-reads.Learnt, ends-branch-reads.Asked, ends-branch-reads.Learnt) (branch-at t) branch.Post M
+branch-part t = branch-lts.spec (blank-reads.Asked, blank-reads.Learnt, factor-below t, factor.Post, link-reads.Asked, link-reads.Learnt, beside-reads.Asked, beside-reads.Learnt, byte-at-reads.Asked, byte-at-reads.Learnt, ends-branch-reads.Asked, ends-branch-reads.Learnt) (branch-at t)
     branch.Post
     branch-Inv-loop
     branch-μ-loop
-    (λ c κs. (omega arith, (ready-factor (c .before .before .before .before .before .pre .1 .0), search needs)))
-    (λ c. let f = c .before .before .before .before in (f .factor .ensures .on, f .factor .ensures .inside, refl, refl, carried-none _ _ _ _ _))
+    (λ c κs. search needs)
+    (λ c. let p = c .before .before .before .before .pre .1 .0 in (omega (arith, c .blank .ensures .nexts), omega (arith, p .inside, c .blank .ensures .nexts), refl, refl, no-factor (c .blank .ensures)))
+    (λ c κs. (omega arith, (let l = c .before .before in let p = l .before .before .before .before .before .pre .1 .0 in ready-part branches p (going branches p (l .loop .inv .4)), search needs)))
+    (λ c κs. let l = c .before .before .before .before .before .before .before .before in let s = l .before .before .before .before .before in let p = s .pre .1 .0 in let b = l .loop .inv .4 in ((going-small branches p b, omega (arith, s .pre .1 .1 .words, l .loop .inv .3, c .before .before .words .given)), right-within (going branches p b .right)))
     (λ c κs. search needs)
     (λ c κs. search needs)
-    (λ c κs. (omega arith, (let g = c .before .before .before in let f = g .before .before .before .before .before .before .before in let p = f .before .before .before .before .before .before .pre .1 .0 in let q = going (λ i j t. first-branch) p (f .factor .ensures) (g .before .before .loop .inv .4) in factor-ready p q (is-on _ (g .before .byte-at .ensures .0) (g .goes-on .ensures) (c .before .before .if1 .taken)), search needs)))
-    (λ c κs. let l = c .before .before .before .before .before .before .before .before .before .before .before in let s = l .before .before .before .before .before .before .before .before .before .before .before in let p = s .pre .1 .0 in let q = going (λ i j t. first-branch) p (l .before .before .before .before .before .factor .ensures) (l .loop .inv .4) in ((going-small q (p .brief), omega (arith, s .pre .1 .1 .words, l .loop .inv .3, l .before .before .words .given, c .before .before .words2 .given)), right-within (q .right)))
     (λ c κs. search needs)
     (λ c. search needs)
-    (λ c. let f = c .before .before .before .before .before .before .before .before .before in let i = f .before .before .before in (omega arith, omega arith, search needs, search needs, carried-more (i .before .before .before .loop .inv .4) (factor-turn (is-on _ (i .before .before .byte-at .ensures .0) (i .before .goes-on .ensures) (i .if1 .taken)) (f .factor2 .ensures) (c .before .before .before .link .ensures) (c .beside .ensures))))
     (λ c. search needs)
-    (λ c. search needs)
-    (λ c. let f = c .before .before .before .before .before .before .before .before in going-found (λ i j t. first-branch) (f .before .before .before .before .before .before .pre .1 .0) (f .factor .ensures) (c .before .before .before .loop .inv .4) (λ t u j x. factor-last x (is-off _ (c .before .before .byte-at .ensures .0) (c .before .goes-on .ensures) (c .if1 .left))))
+    (λ c. parts-found branches (c .before .before .before .before .before .before .before .before .before .before .before .before .before .before .before .loop .inv .4) (c .before .before .before .before .before .before .before .before .before .before .before .before .factor .ensures) (join-factor (c .before .before .before .before .before .before .link .ensures) (c .before .before .before .beside .ensures)) (c .before .before .before .before .before .before .before .before .before .before .before .before .before .before .before .before .before .before .before .before .pre .1 .0) (c .before .before .before .beside .ensures .nexts) (λ z. false≢true (sym z ∙ ap stops (sym (c .before .before .byte-at .ensures .0 ∙ ap (byte (c .before .before .before .before .before .before .before .before .before .before .before .before .before .before .before .before .before .before .before .before .args .text .now)) (c .before .before .before .beside .ensures .nexts))) ∙ sym (c .before .ends-branch .ensures) ∙ c .if1 .taken)))
+    (λ c. omega (arith, c .before .before .before .before .before .before .before .before .before .before .before .before .factor .ensures .on, c .before .before .before .before .before .before .before .before .before .before .before .before .factor .ensures .inside, c .before .before .before .beside .ensures .nexts))
+    (λ c. let f = c .before .before .before .before .before .before .before .before .before .before .before .before .factor .ensures in let e = c .before .before .before .beside .ensures in (omega (arith, f .on, e .nexts, c .before .before .before .before .before .before .before .before .before .before .before .before .before .before .before .loop .inv .0), omega (arith, f .inside, e .nexts), search needs, search needs, parts-more branches (c .before .before .before .before .before .before .before .before .before .before .before .before .before .before .before .loop .inv .4) f (join-factor (c .before .before .before .before .before .before .link .ensures) (c .before .before .before .beside .ensures)) (e .nexts) (ap stops (sym (c .before .before .byte-at .ensures .0 ∙ ap (byte (c .before .before .before .before .before .before .before .before .before .before .before .before .before .before .before .before .before .before .before .before .args .text .now)) (c .before .before .before .beside .ensures .nexts))) ∙ sym (c .before .ends-branch .ensures) ∙ c .if1 .left)))
 
-expr-part : {M : Type 1} (t : ℕ) → expr-lts.Closed (branch-below t, branch.Post, byte-at-reads.Asked, byte-at-reads.Learnt, either-reads.Asked, either-reads.Learnt) (expr-at t) expr.Post M
-expr-part t = expr-lts.spec (branch-below t, branch.Post, byte-at-reads.Asked, byte-at-reads.Learnt, either-reads.Asked, either-reads.Learnt) (expr-at t)
+expr-part : {M : Type 1} (t : ℕ) → expr-lts.Closed (blank-reads.Asked, blank-reads.Learnt, branch-below t, branch.Post, either-reads.Asked, either-reads.Learnt, byte-at-reads.Asked, byte-at-reads.Learnt, moved-reads.Asked, moved-reads.Learnt) (expr-at t) expr.Post M
+expr-part t = expr-lts.spec (blank-reads.Asked, blank-reads.Learnt, branch-below t, branch.Post, either-reads.Asked, either-reads.Learnt, byte-at-reads.Asked, byte-at-reads.Learnt, moved-reads.Asked, moved-reads.Learnt) (expr-at t)
     expr.Post
     expr-Inv-loop
     expr-μ-loop
-    (λ c κs. (omega arith, (ready-branch (c .before .before .before .before .before .pre .1 .0), search needs)))
-    (λ c. let b = c .before .before .before .before in (b .branch .ensures .on, b .branch .ensures .inside, refl, refl, carried-none _ _ _ _ _))
+    (λ c κs. search needs)
+    (λ c. let p = c .before .before .before .before .pre .1 .0 in (omega (arith, c .blank .ensures .nexts), omega (arith, p .inside, c .blank .ensures .nexts), refl, refl, no-branch (c .blank .ensures)))
+    (λ c κs. (omega arith, (let l = c .before .before in let p = l .before .before .before .before .before .pre .1 .0 in ready-part exprs p (going exprs p (l .loop .inv .4)), search needs)))
+    (λ c κs. search needs)
     (λ c κs. search needs)
     (λ c. search needs)
-    (λ c κs. (omega arith, (let u = c .before .before .before in let b = u .before .before .before .before .before .before .before in let p = b .before .before .before .before .before .before .pre .1 .0 in let q = going (λ i j t. first-expr) p (b .branch .ensures) (u .before .before .loop .inv .4) in branch-ready p q (sym (u .before .byte-at .ensures .0) ∙ u .if1 .taken), search needs)))
+    (λ c. search needs)
+    (λ c. parts-found exprs (c .before .before .before .before .before .before .before .before .before .before .loop .inv .4) (c .before .before .before .before .before .before .before .branch .ensures) (join-branch (c .before .before .either .ensures)) (c .before .before .before .before .before .before .before .before .before .before .before .before .before .before .before .pre .1 .0) (c .before .before .either .ensures .nexts) (λ z. c .if1 .taken ((c .before .byte-at .ensures .0 ∙ ap (byte (c .before .before .before .before .before .before .before .before .before .before .before .before .before .before .before .args .text .now)) (c .before .before .either .ensures .nexts)) ∙ z)))
+    (λ c. omega (arith, c .before .before .before .before .before .before .before .before .branch .ensures .inside, c .before .before .before .either .ensures .nexts, c .before .before .before .before .before .before .before .before .before .before .before .before .before .before .before .before .pre .1 .0 .short))
     (λ c κs. search needs)
-    (λ c. search needs)
-    (λ c. let i = c .before .before .before .before .before .before .before .before .before in (omega arith, omega arith, search needs, search needs, carried-more (i .before .before .loop .inv .4) (branch-turn (sym (i .before .byte-at .ensures .0) ∙ i .if1 .taken) (c .before .before .before .before .before .branch2 .ensures) (c .either .ensures))))
-    (λ c. search needs)
-    (λ c. search needs)
-    (λ c. let b = c .before .before .before .before .before .before .before in going-found (λ i j t. first-expr) (b .before .before .before .before .before .before .pre .1 .0) (b .branch .ensures) (c .before .before .loop .inv .4) (λ t u j x. branch-last x (λ e. c .if1 .left (c .before .byte-at .ensures .0 ∙ e))))
+    (λ c. omega (arith, c .before .before .before .before .before .before .before .before .before .branch .ensures .on, c .before .before .before .before .before .before .before .before .before .branch .ensures .inside, c .before .before .before .before .either .ensures .nexts, c .moved .ensures .nexts))
+    (λ c. let b = c .before .before .before .before .before .before .before .before .before .branch .ensures in let e = c .before .before .before .before .either .ensures in let m = c .moved .ensures in let h = sym (c .before .before .before .byte-at .ensures .0 ∙ ap (byte (c .before .before .before .before .before .before .before .before .before .before .before .before .before .before .before .before .before .args .text .now)) (c .before .before .before .before .either .ensures .nexts)) ∙ c .before .before .if1 .left in (omega (arith, b .on, e .nexts, m .nexts, c .before .before .before .before .before .before .before .before .before .before .before .before .loop .inv .0), omega (arith, e .nexts, m .nexts, inside (c .before .before .before .before .before .before .before .before .before .before .before .before .before .before .before .before .before .args .text .now) (c .before .before .before .before .before .before .before .before .before .branch .result .next) (λ z. omega (arith, h, z))), omega (arith, c .before .before .before .before .before .before .before .before .before .before .before .before .loop .inv .2, c .before .before .before .before .before .before .before .before .bytes .given), omega (arith, c .before .before .before .before .before .before .before .before .before .before .before .before .loop .inv .3, c .before .before .before .before .before .before .words .given), parts-more exprs (c .before .before .before .before .before .before .before .before .before .before .before .before .loop .inv .4) b (λ so t x z. right-moved (join-branch e so t x z) m) (m .nexts ∙ ap (λ n. n + 1) (e .nexts)) h))
 
 factor-part : {M : Type 1} (t : ℕ) → factor-lts.Closed (atom-below t, atom.Post, marks-reads.Asked, marks-reads.Learnt) (factor-at t) factor.Post M
 factor-part t = factor-lts.spec (atom-below t, atom.Post, marks-reads.Asked, marks-reads.Learnt) (factor-at t)
