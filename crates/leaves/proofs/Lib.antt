@@ -5,3 +5,4 @@ pub mod GrownSets
 -- What stands at one position
 pub mod ClassItems
 pub mod Singles
+pub mod ClassEnd

@@ -2,6 +2,7 @@
 --   dot-ranges: the dot's bytes are those before the line end and those after it
 --   single-dot, single-class, single-byte, single-literal: each was read
 --   single-items, single-escape, literal-byte: what can be read of it
+--   end-one, end-class, end-byte: where it ends, by one reading; a class; the dot or a literal
 use Prim.Native.Nat.{ℕ, _+_, _<_}
 use Prim.Native.Char.{code}
 use mathlib.Core.Path.{_≡_, refl, sym, _∙_}
@@ -15,7 +16,7 @@ use Rattle.scope.specs.Text.Tree.{Leaf, dotSet, itemsSet, setOf}
 use Rattle.scope.proofs.Counting.Tests.{all-is, same-bool}
 use Rattle.scope.proofs.Text.Grammar.{other, escape-head, escape-on, items-on, single-on, single-one}
 use Rattle.leaves.specs.GrownSets.{SetGrown}
-use Rattle.leaves.specs.ReadAt.{Some, WholeItems, Took}
+use Rattle.leaves.specs.ReadAt.{Some, WholeItems, EndsAt, Took}
 use Rattle.leaves.proofs.ByteByByte.{escape-in, items-in, single-in}
 use Rattle.leaves.proofs.GrownSets.{grown-both, grown-as, between-one}
 use Rattle.leaves.proofs.ClassItems.{some, took}
@@ -27,6 +28,10 @@ dot-both n h = same-bool _ _ .sound (all-is (λ b. Bool·beq (dotSet b) (between
 
 pub dot-ranges : {k z a b : ℕ} {m m′ m″ : List ℕ} → SetGrown k (between z a) m m′ → SetGrown k (between b 0xFF) m′ m″ → z ≡ 0x00 → a ≡ 0x09 → b ≡ 0x0B → SetGrown k dotSet m m″
 dot-ranges x y d e f = grown-both x y (λ n h. rw (d, e, f) (dot-both n h))
+
+-- one reading tells the end of every one
+pub end-one : {s : List ℕ} {i r : ℕ} {x : Leaf} → Single s i r x → EndsAt Single s i r
+end-one y = record { on = single-on y; inside = single-in y; says = λ j z w. single-one y w .0 }
 
 module _ {s : List ℕ} {i b : ℕ} (p : Some Single s i) (q : b ≡ byte s i) where
   -- one reading is every reading
@@ -82,3 +87,17 @@ module _ {s : List ℕ} {i b : ℕ} (p : Some Single s i) (q : b ≡ byte s i) w
   pub literal-byte : (b ≡ code "." → ⊥) → (b ≡ code "[" → ⊥) → (b ≡ code "\\" → ⊥) → b ≡ byteValues → ⊥
   unfolding literal
   literal-byte d c e = other literal (literal-of (p .reads) d c e) refl
+
+  -- ---- its end
+
+  pub end-class : {r : ℕ} → b ≡ code "[" → EndsAt WholeItems s (i + 1) r → EndsAt Single s i (r + 1)
+  end-class e t = let w = single-items e in rw (t .says (w .end) (w .what) (w .reads)) (end-one (a-class (sym q ∙ e) (w .reads .0) (w .reads .1)))
+
+  byte-end : {j : ℕ} {x : Leaf} → (b ≡ code "[" → ⊥) → (b ≡ code "\\" → ⊥) → Single s i j x → i + 1 ≡ j
+  byte-end c e (a-dot h) = refl
+  byte-end c e (a-literal h) = refl
+  byte-end c e (an-escape x) = absurd (e (q ∙ escape-head x))
+  byte-end c e (a-class h l k) = absurd (c (q ∙ h))
+
+  pub end-byte : (b ≡ code "[" → ⊥) → (b ≡ code "\\" → ⊥) → EndsAt Single s i (i + 1)
+  end-byte c e = rw (byte-end c e (p .reads)) (end-one (p .reads))

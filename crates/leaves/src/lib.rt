@@ -1,4 +1,4 @@
-// What stands at one position: a literal, a byte's escape, the dot or a class. Its bytes are put into its set, in a lent buffer.
+// What stands at one position: a literal, a byte's escape, the dot or a class. Its bytes are put into its set, in a lent buffer; or its end alone is found.
 mod byte_set;
 pub mod text;
 
@@ -9,7 +9,7 @@ ghost use Rattle.scope.specs.Limits.{positionLimit};
 ghost use Rattle.scope.specs.Text.Tree.{dotSet, itemSet, itemsSet, setOf};
 ghost use Rattle.sets.specs.Layout.{byteSets};
 ghost use Rattle.leaves.specs.GrownSets.{SetGrown};
-ghost use Rattle.leaves.specs.ReadAt.{Some, WholeItem, WholeItems, Took};
+ghost use Rattle.leaves.specs.ReadAt.{Some, WholeItem, WholeItems, EndsAt, Took};
 use byte_set::insert;
 use text::BACKSLASH;
 use text::CLASS_CLOSE;
@@ -81,5 +81,39 @@ pub fn single(text: &[u8], at: usize, k: usize, bytes: &mut [u8]) -> usize
     }
     let c = b as u8;
     insert(bytes, k, c, c);
+    at + 1
+}
+
+// The place of the `]` after the items of a class: each byte is passed, with the one after it if it is a backslash.
+fn class_end(text: &[u8], at: usize) -> usize
+    requires { ⌜ Some WholeItems (now text) at ⌝ }
+    ensures { λ r. ⌜ EndsAt WholeItems (now (text .entry)) at r ⌝ }
+{
+    let mut next = at;
+    loop {
+        let b = byte_at(text, next);
+        if b == CLASS_CLOSE {
+            return next;
+        }
+        if b == BACKSLASH {
+            next += 2;
+        } else {
+            next += 1;
+        }
+    }
+}
+
+// The place after an atom that is one position.
+pub fn single_end(text: &[u8], at: usize) -> usize
+    requires { ⌜ Some Single (now text) at ⌝ }
+    ensures { λ r. ⌜ EndsAt Single (now (text .entry)) at r ⌝ }
+{
+    let b = byte_at(text, at);
+    if b == CLASS_OPEN {
+        return class_end(text, at + 1) + 1;
+    }
+    if b == BACKSLASH {
+        return escape(text, at).next;
+    }
     at + 1
 }
