@@ -1,6 +1,6 @@
 -- From what each pass leaves to what the next is given.
 --   clear-filled: what was filled with zeros is clear
---   reads: the sets of the text's tree, with First as the set number 0, are what building is given
+--   reads: the sets of the text's tree are what building is given
 --   outcome: what building answered, of the tree of the text
 --   image: the image that it made, lent on
 --   answered: what building leaves in the scratch is within it
@@ -26,12 +26,11 @@ use Rattle.scope.specs.Text.Tree.{expr}
 use Rattle.buffers.specs.Stored.{Stored}
 use Rattle.scope.proofs.Operations.Buffers.{tail-then, tail-within}
 use Rattle.buffers.proofs.OneMore.{all-kept, part-all}
-use Rattle.sets.specs.Value.{setValue, setAt, Put}
-use Rattle.sets.proofs.Words.{put-other}
+use Rattle.sets.specs.Value.{setValue, setAt}
 use Rattle.pattern.specs.PatternSets.{Faultless, Clear, Shaped, Reading}
 use Rattle.pattern.specs.declared.Shape.{Shape}
 use Rattle.pattern.proofs.Whole.{places-size}
-use Rattle.sets.specs.Layout.{byteSets, imageAt, wordSets}
+use Rattle.sets.specs.Layout.{byteSets, imageAt, readWords}
 use Rattle.determinise.specs.Build.{Given, MadeRoom, BuildOutcome, Builds}
 use Rattle.determinise.specs.declared.Built.{Built}
 use Rattle.judge.specs.declared.Judged.{Judged}
@@ -43,10 +42,9 @@ pub clear-filled : {m m′ : List ℕ} (n : ℕ) → n ≤ length m → Stored m
 clear-filled n h s = record { long = omega (arith, s .size); zero = λ i k. s .inside i k (omega arith) }
 
 -- First is the set number 0
-given : {e : Re} {y y′ w w′ w″ : List ℕ} {r : Shape} → r .size ≤ positionLimit → Shaped e y y′ w w′ r → Put w′ w″ 0 (setValue (r .first .words))
-    → Given e y′ w″ (r .size) (setValue (r .last .words)) (r .null)
+given : {e : Re} {y y′ w w′ : List ℕ} {r : Shape} → r .size ≤ positionLimit → Shaped e y y′ w w′ r → Given e y′ w′ (r .size) (setValue (r .last .words)) (r .null)
 unfolding bits.afterPosition
-given {e} {w′ = w′} {w″} {r} few s p = record {
+given {e} {w′ = w′} {r = r} few s = record {
   positions = sym (s .sizes);
   follow = follow;
   holds = λ q b h k. s .holds q b (omega arith) k;
@@ -54,25 +52,21 @@ given {e} {w′ = w′} {w″} {r} few s p = record {
   empty = s .nulls;
 }
   where
-    follow : (q : ℕ) → q ≤ r .size → setAt w″ q ≡ bits.afterPosition e q
-    follow zero h = p .here ∙ s .firsts
-    follow (suc q) h = put-other p (suc q) (λ z. omega arith) ∙ s .follows (suc q) (omega arith)
+    follow : (q : ℕ) → q ≤ r .size → setAt w′ q ≡ bits.afterPosition e q
+    follow zero h = s .firsts
+    follow (suc q) h = s .follows (suc q) (omega arith) (omega arith)
 
 -- the sets of the text's tree are what building is given
 pub reads :
-    {s b b₁ b′ w w₁ w₂ w′ : List ℕ} {r : Shape} → Faultless s → Stored b b₁ 0 byteSets (λ i. 0) → Stored w w₁ 0 wordSets (λ i. 0)
-    → Reading s b₁ b′ w₁ w₂ r → Put w₂ w′ 0 (setValue (r .first .words)) → ReadsText s b b′ w w′ r
-reads {b₁ = b₁} {b′} {w₁ = w₁} {w₂} {r = r} p fb fw a z = record {
+    {s b b₁ b′ w w₁ w′ : List ℕ} {r : Shape} → Faultless s → Stored b b₁ 0 byteSets (λ i. 0) → Stored w w₁ 0 readWords (λ i. 0) → Reading s b₁ b′ w₁ w′ r → ReadsText s b b′ w w′ r
+reads {b₁ = b₁} {b′} {w₁ = w₁} {w′} {r = r} p fb fw a = record {
   few = few;
-  given = λ t h. given few (a .says t h) z;
+  given = λ t h. given few (a .says t h);
   bytes-kept = record { size = shaped .bytes-kept .size ∙ fb .size; outside = λ i h. shaped .bytes-kept .outside i h ∙ fb .outside i (inr h) };
-  words-kept = record {
-    size = z .size ∙ shaped .words-kept .size ∙ fw .size;
-    outside = λ i h. z .outside i (inr (omega arith)) ∙ shaped .words-kept .outside i h ∙ fw .outside i (inr h);
-  };
+  words-kept = record { size = shaped .words-kept .size ∙ fw .size; outside = λ i h. shaped .words-kept .outside i h ∙ fw .outside i (inr h) };
 }
   where
-    shaped : Shaped (expr (p .tree)) b₁ b′ w₁ w₂ r
+    shaped : Shaped (expr (p .tree)) b₁ b′ w₁ w′ r
     shaped = a .says (p .tree) (p .sized .pattern)
 
     few : r .size ≤ positionLimit

@@ -10,14 +10,14 @@ use Rattle.scope.specs.Limits.{positionLimit, scratchBytes, scratchWords}
 use Rattle.scope.specs.Text.Tree.{Tree, expr}
 use Rattle.sets.specs.Value.{setValue}
 use Rattle.pattern.specs.declared.Shape.{Shape}
-use Rattle.sets.specs.Layout.{byteSets, wordSets}
+use Rattle.sets.specs.Layout.{byteSets, readWords}
 use Rattle.determinise.specs.Build.{Given}
 
 pub record ReadsText (s bytes bytes′ words words′ : List ℕ) (r : Shape) : Type 0 where
   pub few : r .size ≤ positionLimit
   pub given : (t : Tree) → Pattern s t → Given (expr t) bytes′ words′ (r .size) (setValue (r .last .words)) (r .null)
   pub bytes-kept : TailKept byteSets bytes bytes′
-  pub words-kept : TailKept wordSets words words′
+  pub words-kept : TailKept readWords words words′
 
 pub record AnswersCompile (text room room′ bytes bytes′ words words′ : List ℕ) (number place : ℕ) : Type 0 where
   pub bytes-kept : TailKept scratchBytes bytes bytes′

@@ -11,17 +11,14 @@ ghost use Rattle.scope.specs.Operations.Compile.{Compiles};
 ghost use Rattle.pattern.specs.PatternSets.{Faultless};
 ghost use Rattle.compile.specs.CompilePasses.{ReadsText, AnswersCompile};
 
-// Reads a text that was judged faultless: its sets come into the scratch, First as what follows the start.
+// Reads a text that was judged faultless: its sets come into the scratch, which is made zero there before.
 fn read(text: &[u8], bytes: &mut [u8], words: &mut [u64]) -> Shape
     requires { ⌜ Faultless (now text) × Scratch (now bytes) (now words) ⌝ }
     ensures { λ r. ⌜ ReadsText (now (text .entry)) (now (bytes .entry)) (now (bytes .exit)) (now (words .entry)) (now (words .exit)) r ⌝ }
 {
     buffers::fill(bytes, 0, layout::IMAGE_AT, 0);
-    buffers::fill_words(words, 0, layout::WORD_SETS, 0);
-    let shape = pattern::read(text, bytes, words);
-    let first = shape.first;
-    sets::store(words, 0, first);
-    shape
+    buffers::fill_words(words, 0, layout::READ_WORDS, 0);
+    pattern::read(text, bytes, words)
 }
 
 // Builds the machine of a text that was judged faultless, and makes it smallest into the room.

@@ -15,7 +15,7 @@ use Rattle.scope.specs.Limits.{byteValues, positionLimit}
 use Rattle.scope.specs.Text.Tree.{Leaf, Tree, nothing, empty, position, setOf, expr}
 use Rattle.scope.proofs.Text.Grammar.{single-on, reads-on, single-back}
 use Rattle.fragments.specs.declared.Fragment.{Fragment}
-use Rattle.leaves.specs.ReadAt.{Backslash, Some, Took}
+use Rattle.leaves.specs.ReadAt.{Backslash, Some, EndsAt}
 use Rattle.factors.specs.Tails.{WholeLevel}
 use Rattle.fragments.specs.Shapes.{Alone, Blank}
 use Rattle.factors.specs.Answer.{Readable, ReadTree, Answer}
@@ -25,7 +25,7 @@ use Rattle.leaves.proofs.ClassItems.{some}
 use Rattle.factors.proofs.Rights.{right-alone, right-empty, right-nothing}
 
 -- one thing that can be read tells how far every one goes
-pub answer : {l : Level} {s : List ℕ} {i k : ℕ} {y y′ w w′ : List ℕ} {g : Fragment} → Readable l k s i → ((j : ℕ) (t : Tree) → WholeLevel l s i j t → ReadTree t k y y′ w w′ g j) → Answer l s i k y y′ w w′ g
+pub answer : {l : Level} {s : List ℕ} {i k : ℕ} {w w′ : List ℕ} {g : Fragment} → Readable l k s i → ((j : ℕ) (t : Tree) → WholeLevel l s i j t → ReadTree t k w w′ g j) → Answer l s i k w w′ g
 answer p f =
     let e = f (p .end) (p .tree) (p .whole) .next in
     record { on = omega (arith, reads-on (p .whole .0)); inside = omega (arith, reads-in (p .whole .0)); says = f }
@@ -58,13 +58,13 @@ module _ {s : List ℕ} where
   behind {i} p e n = elim (ℕ-discrete (byte s i) (code "\\")) [ yes h ↦ (h, sym (p .yes h) ∙ e) | no h ↦ absurd (n (sym e ∙ p .no h)) ]
 
   module _ {i k b : ℕ} (p : Readable atoms k s i) (q : Backslash s i b) where
-    pub leaf-empty : {y : List ℕ} {g : Fragment} → b ≡ code "e" → Blank (i + 2) k true g → (w : List ℕ) → Answer atoms s i k y y w w g
+    pub leaf-empty : {w : List ℕ} {g : Fragment} → b ≡ code "e" → Blank (i + 2) k true g → Answer atoms s i k w w g
     unfolding expr
-    leaf-empty e m w = answer p (λ j t r. let (h, d) = behind q e (λ z. omega arith) in let (o, u) = is-empty h d (r .0) in record { next = m .nexts ∙ o; right = rw u (right-empty m) })
+    leaf-empty e m = answer p (λ j t r. let (h, d) = behind q e (λ z. omega arith) in let (o, u) = is-empty h d (r .0) in record { next = m .nexts ∙ o; right = rw u (right-empty m) })
 
-    pub leaf-nothing : {y : List ℕ} {g : Fragment} → b ≡ code "0" → Blank (i + 2) k false g → (w : List ℕ) → Answer atoms s i k y y w w g
+    pub leaf-nothing : {w : List ℕ} {g : Fragment} → b ≡ code "0" → Blank (i + 2) k false g → Answer atoms s i k w w g
     unfolding expr
-    leaf-nothing e m w = answer p (λ j t r. let (h, d) = behind q e (λ z. omega arith) in let (o, u) = is-nothing h d (r .0) in record { next = m .nexts ∙ o; right = rw u (right-nothing m) })
+    leaf-nothing e m = answer p (λ j t r. let (h, d) = behind q e (λ z. omega arith) in let (o, u) = is-nothing h d (r .0) in record { next = m .nexts ∙ o; right = rw u (right-nothing m) })
 
     module _ (n : byte s i ≡ code "(" → ⊥) (e : b ≡ code "e" → ⊥) (z : b ≡ code "0" → ⊥) where
       pub leaf-some : Some Single s i
@@ -74,6 +74,6 @@ module _ {s : List ℕ} where
       unfolding expr
       leaf-room = let (x, r, d) = is-single n q e z (p .whole .0) in omega (arith, rw d at (p .brief))
 
-      pub leaf-single : {y y′ : List ℕ} {r : ℕ} {g : Fragment} → Took Single setOf s i k y y′ r → Alone r k g → (w : List ℕ) → Answer atoms s i k y y′ w w g
+      pub leaf-single : {w w′ : List ℕ} {r : ℕ} {g : Fragment} → EndsAt Single s i r → Alone r k w w′ g → Answer atoms s i k w w′ g
       unfolding expr
-      leaf-single t m w = answer p (λ j u v. let (x, r, d) = is-single n q e z (v .0) in let (o, h) = t .says j x r in record { next = m .nexts ∙ o; right = rw d (right-alone h m) })
+      leaf-single t m = answer p (λ j u v. let (x, r, d) = is-single n q e z (v .0) in record { next = m .nexts ∙ t .says j x r; right = rw d (right-alone (setOf x) m) })

@@ -1,16 +1,15 @@
 // What a factor is made of, but for parentheses: a leaf, and the marks after an atom. Each reads what the text has at a place, and requires that it is there.
-ghost use mathlib.Core.List.{List};
-ghost use Prim.Native.Nat.{ℕ, _≤_};
+ghost use Prim.Native.Nat.{_≤_};
 ghost use lib.ListN.{length};
 ghost use Rattle.scope.specs.Text.Grammar.{atoms};
-ghost use Rattle.sets.specs.Layout.{byteSets};
+ghost use Rattle.sets.specs.Layout.{readWords};
 ghost use Rattle.factors.specs.Tails.{GroupAt};
 ghost use Rattle.factors.specs.Answer.{Fit, Readable, WithMarks, Answer};
 use fragments::Fragment;
 use fragments::alone;
 use fragments::blank;
 use fragments::marked;
-use leaves::single;
+use leaves::single_end;
 use leaves::text::EMPTY;
 use leaves::text::NOTHING;
 use leaves::text::byte_at;
@@ -20,10 +19,10 @@ use literals::PLUS;
 use literals::is_mark;
 
 // An atom other than one in parentheses.
-pub fn leaf(text: &[u8], at: usize, count: usize, bytes: &mut [u8]) -> Fragment
+pub fn leaf(text: &[u8], at: usize, count: usize, words: &mut [u64]) -> Fragment
     requires { ⌜ Readable atoms count (now text) at × (GroupAt (now text) at → ⊥) ⌝ }
-    requires { ⌜ byteSets ≤ length (now bytes) ⌝ }
-    ensures { λ r. ⌜ ((w : List ℕ) → Answer atoms (now (text .entry)) at count (now (bytes .entry)) (now (bytes .exit)) w w r) ⌝ }
+    requires { ⌜ readWords ≤ length (now words) ⌝ }
+    ensures { λ r. ⌜ Answer atoms (now (text .entry)) at count (now (words .entry)) (now (words .exit)) r ⌝ }
 {
     let b = escaped(text, at);
     if b == EMPTY {
@@ -32,18 +31,18 @@ pub fn leaf(text: &[u8], at: usize, count: usize, bytes: &mut [u8]) -> Fragment
     if b == NOTHING {
         return blank(at + 2, count, false);
     }
-    alone(single(text, at, count, bytes), count)
+    alone(single_end(text, at), count, words)
 }
 
-// The part with the marks after it.
-pub fn marks(text: &[u8], part: Fragment, words: &mut [u64]) -> Fragment
-    requires { ⌜ Fit (now text) (now words) part ⌝ }
-    ensures { λ r. ⌜ WithMarks (now (text .entry)) (now (words .entry)) part (now (words .exit)) r ⌝ }
+// The part with the marks after it; `from` positions are to its left.
+pub fn marks(text: &[u8], from: usize, part: Fragment, words: &mut [u64]) -> Fragment
+    requires { ⌜ Fit (now text) from (now words) part ⌝ }
+    ensures { λ r. ⌜ WithMarks (now (text .entry)) from (now (words .entry)) part (now (words .exit)) r ⌝ }
 {
     let mut all = part;
     while is_mark(byte_at(text, all.next)) {
         let b = byte_at(text, all.next);
-        all = marked(all, all.next + 1, b != OPTION, b != PLUS, words);
+        all = marked(from, all, all.next + 1, b != OPTION, b != PLUS, words);
     }
     all
 }

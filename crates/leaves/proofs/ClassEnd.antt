@@ -1,7 +1,7 @@
 -- The end of a class. After a backslash stands no `]` that ends it, and the bytes of an escape after those two are none.
 --   Along s i j: from i on, each byte passed, with the one after it if it is a backslash, the `]` at j is reached, and none before it
 --   InClass s at i: so it is for the end of every class whose items begin at at
---   class-all, class-inside, class-on, class-end: at the first item; before the end; one byte, or two, further; at the end
+--   class-all, class-inside, class-one, class-two, class-end: at the first item; before the end; one byte further; two; at the end
 use Prim.Native.Nat.{ℕ, _+_, _<_, _≤_}
 use Prim.Native.Char.{code}
 use mathlib.Core.Path.{_≡_, refl, sym, ap, _∙_}
@@ -11,9 +11,9 @@ use lib.ListN.{length}
 use Rattle.scope.specs.Bytes.{byte}
 use Rattle.scope.specs.Text.Grammar.{classLiteral, hex, Escape, plain, coded, ClassByte, bare, escaped, OneItem, one-byte, low-high, Items, last-item, more-items}
 use Rattle.scope.specs.Text.Tree.{Item}
-use Rattle.scope.proofs.Text.Grammar.{other, items-on}
+use Rattle.scope.proofs.Text.Grammar.{other}
 use Rattle.leaves.specs.ReadAt.{Some, WholeItems, EndsAt}
-use Rattle.leaves.proofs.ByteByByte.{items-in}
+use Rattle.leaves.proofs.ClassItems.{ends, items-bounds}
 
 pub data Along (s : List ℕ) : ℕ → ℕ → Type 0 where
   here : {j : ℕ} → byte s j ≡ code "]" → Along s j j
@@ -80,7 +80,7 @@ module _ {s : List ℕ} where
 
   module _ {at i b : ℕ} (f : InClass s at i) (q : b ≡ byte s i) where
     pub class-inside : Some WholeItems s at → (b ≡ code "]" → ⊥) → i < length s
-    class-inside p n = omega (arith, along-on q n (f .says (p .end) (p .what) (p .reads)), items-in (p .reads .0))
+    class-inside p n = omega (arith, along-on q n (f .says (p .end) (p .what) (p .reads)), items-bounds (p .end) (p .what) (p .reads))
 
     pub class-one : (b ≡ code "]" → ⊥) → (b ≡ code "\\" → ⊥) → InClass s at (i + 1)
     class-one n m = record { says = λ j l w. along-one q n m (f .says j l w) }
@@ -89,6 +89,4 @@ module _ {s : List ℕ} where
     class-two e = record { says = λ j l w. along-two q e (f .says j l w) }
 
     pub class-end : Some WholeItems s at → b ≡ code "]" → EndsAt WholeItems s at i
-    class-end p e =
-        let o = along-end q e (f .says (p .end) (p .what) (p .reads)) in
-        record { on = omega (arith, items-on (p .reads .0)); inside = omega (arith, items-in (p .reads .0)); says = λ j l w. along-end q e (f .says j l w) }
+    class-end p e = ends p items-bounds (λ j l w. along-end q e (f .says j l w))

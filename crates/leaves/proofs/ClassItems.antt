@@ -1,6 +1,7 @@
 -- Classes item by item: whatever can be read there is what the reader takes, since the bytes that it looks at decide.
 --   some: something that can be read begins inside of the text
---   took: what is said of every reading, with one that there is
+--   ends, took: what is said of every reading, with one that there is
+--   items-bounds: the items of a class move on and end inside of the text
 --   item-low, item-high: the bytes of an item can be read
 --   item-range, item-lone: an item was read
 --   Todo s i j l: the items l, or none, are left between i and j
@@ -19,7 +20,7 @@ use Rattle.scope.specs.Limits.{patternLimit}
 use Rattle.scope.specs.Text.Tree.{Item, lone, range, itemSet, itemsSet}
 use Rattle.scope.proofs.Text.Grammar.{class-byte-on, class-byte-one, item-on, items-on, items-head}
 use Rattle.leaves.specs.GrownSets.{SetGrown}
-use Rattle.leaves.specs.ReadAt.{Some, WholeItem, WholeItems, Took}
+use Rattle.leaves.specs.ReadAt.{Some, WholeItem, WholeItems, EndsAt, Took}
 use Rattle.leaves.proofs.ByteByByte.{class-byte-in, item-in, items-in}
 use Rattle.leaves.proofs.GrownSets.{Left, left-all, left-more, left-none, grown-as, between-one}
 
@@ -28,13 +29,20 @@ pub some : {A : Type 0} (R : List ℕ → ℕ → ℕ → A → Type 0) {s : Lis
 some R {j = j} {x = x} h r a b = record { short = h; inside = omega arith; end = j; what = x; reads = r }
 
 -- what is said of every reading, with one that there is
+pub ends : {A : Type 0} {R : List ℕ → ℕ → ℕ → A → Type 0} {s : List ℕ} {i r : ℕ} → Some R s i → ((j : ℕ) (x : A) → R s i j x → (i < j) × (j ≤ length s)) → ((j : ℕ) (x : A) → R s i j x → r ≡ j)
+    → EndsAt R s i r
+ends p b f = let e = f (p .end) (p .what) (p .reads) in let (on, inside) = b (p .end) (p .what) (p .reads) in record { on = omega arith; inside = omega arith; says = f }
+
 pub took : {A : Type 0} {R : List ℕ → ℕ → ℕ → A → Type 0} {set : A → ByteSet} {s : List ℕ} {i k : ℕ} {m m′ : List ℕ} {r : ℕ} → Some R s i
     → ((j : ℕ) (x : A) → R s i j x → (i < j) × (j ≤ length s)) → ((j : ℕ) (x : A) → R s i j x → (r ≡ j) × SetGrown k (set x) m m′) → Took R set s i k m m′ r
-took p b f = let e = f (p .end) (p .what) (p .reads) .0 in let (on, inside) = b (p .end) (p .what) (p .reads) in record { on = omega arith; inside = omega arith; says = f }
+took p b f = let e = ends p b (λ j x w. f j x w .0) in record { on = e .on; inside = e .inside; says = f }
 
 module _ {s : List ℕ} where
   item-bounds : {i : ℕ} (j : ℕ) (x : Item) → WholeItem s i j x → (i < j) × (j ≤ length s)
   item-bounds j x (r, n) = (item-on r, item-in r)
+
+  pub items-bounds : {i : ℕ} (j : ℕ) (l : List Item) → WholeItems s i j l → (i < j) × (j ≤ length s)
+  items-bounds j l (r, h) = (items-on r, items-in r)
 
   -- ---- an item
 
@@ -132,4 +140,4 @@ module _ {s : List ℕ} where
     -- none is left
     pub rest-none : b ≡ code "]" → Took WholeItems itemsSet s at k m m′ i
     unfolding itemsSet
-    rest-none e = took p (λ j l (r, h). (items-on r, items-in r)) (λ j l w. let x = f .says j l w in let (z, y) = stop (x .todo) q e in (z, left-none (x .left) (λ n h. rw y refl)))
+    rest-none e = took p items-bounds (λ j l w. let x = f .says j l w in let (z, y) = stop (x .todo) q e in (z, left-none (x .left) (λ n h. rw y refl)))

@@ -4,5 +4,5 @@ pub mod ByteByByte
 pub mod GrownSets
 -- What stands at one position
 pub mod ClassItems
-pub mod Singles
 pub mod ClassEnd
+pub mod Singles

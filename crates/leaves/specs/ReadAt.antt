@@ -3,8 +3,9 @@
 --   Some R s i: at the place i of s, which is not LONG, something can be read by the rule R
 --   Backslash s i r: r is the byte after a backslash at i, 256 if there is none
 --   WholeItem, WholeItems: an item of a class that no dash goes on with; the items of a class up to its `]`
+--   UpTo R P s i r: r lies after i and not past the end of the text, and P holds of the end and the value of whatever is read by R at i
 --   EndsAt R s i r: whatever is read by R at i ends at r
---   Took R set s i k m m′ r: whatever is read by R at i ends at r, and its bytes are put into the set of the position that has k others before it
+--   Took R set s i k m m′ r: so it is, and its bytes are put into the set of the position that has k others before it
 use Prim.Native.Nat.{ℕ, _+_, _<_, _≤_}
 use Prim.Native.Char.{code}
 use mathlib.Core.Path.{_≡_}
@@ -33,12 +34,13 @@ WholeItem s i j x = OneItem s i j x × (byte s j ≡ code "-" → ⊥)
 abbrev pub WholeItems : List ℕ → ℕ → ℕ → List Item → Type 0
 WholeItems s i j l = Items s i j l × (byte s j ≡ code "]")
 
-pub record EndsAt {A : Type 0} (R : List ℕ → ℕ → ℕ → A → Type 0) (s : List ℕ) (i r : ℕ) : Type 0 where
+pub record UpTo {A : Type 0} (R : List ℕ → ℕ → ℕ → A → Type 0) (P : ℕ → A → Type 0) (s : List ℕ) (i r : ℕ) : Type 0 where
   pub on : i < r
   pub inside : r ≤ length s
-  pub says : (j : ℕ) (x : A) → R s i j x → r ≡ j
+  pub says : (j : ℕ) (x : A) → R s i j x → P j x
 
-pub record Took {A : Type 0} (R : List ℕ → ℕ → ℕ → A → Type 0) (set : A → ByteSet) (s : List ℕ) (i k : ℕ) (m m′ : List ℕ) (r : ℕ) : Type 0 where
-  pub on : i < r
-  pub inside : r ≤ length s
-  pub says : (j : ℕ) (x : A) → R s i j x → (r ≡ j) × SetGrown k (set x) m m′
+abbrev pub EndsAt : {A : Type 0} → (List ℕ → ℕ → ℕ → A → Type 0) → List ℕ → ℕ → ℕ → Type 0
+EndsAt R s i r = UpTo R (λ j x. r ≡ j) s i r
+
+abbrev pub Took : {A : Type 0} → (List ℕ → ℕ → ℕ → A → Type 0) → (A → ByteSet) → List ℕ → ℕ → ℕ → List ℕ → List ℕ → ℕ → Type 0
+Took R set s i k m m′ r = UpTo R (λ j x. (r ≡ j) × SetGrown k (set x) m m′) s i r

@@ -38,6 +38,6 @@ module _ {s : List ℕ} where
     unfolding expr
     ready-inner = let x = inner (sym q ∙ e) (p .whole .0) in ready exprs (p .short) (x .whole) (rw (x .is) at (p .brief))
 
-    pub answer-inner : {y y′ w w′ : List ℕ} {g r : Fragment} → Answer exprs s (i + 1) k y y′ w w′ g → Moved g (g .next + 1) (g .null) r → Answer atoms s i k y y′ w w′ r
+    pub answer-inner : {w w′ : List ℕ} {g r : Fragment} → Answer exprs s (i + 1) k w w′ g → Moved g (g .next + 1) (g .null) r → Answer atoms s i k w w′ r
     unfolding expr
     answer-inner a m = answer p (λ j t v. let x = inner (sym q ∙ e) (v .0) in let f = a .says (x .end) (x .tree) (x .whole) in record { next = m .nexts ∙ ap (λ (n : ℕ). n + 1) (f .next) ∙ x .next; right = rw (x .is) (right-moved (f .right) m) })

@@ -112,7 +112,7 @@ module _ {s : List ℕ} where
   part-ready l {so} k h c (last-part {t = t} w e) b = ready (partOf l) h w (omega (arith, grown-size l so t, ap (λ (x : Tree). size (expr x)) e))
   part-ready l {so} k h c (more-parts {t = t} w g r) b = ready (partOf l) h w (omega (arith, grown-size l so t, parts-size l r))
 
-  pub ready-part : (l : Level) {k i : ℕ} {y y′ w w′ : List ℕ} {g : Fragment} (p : Readable l k s i) → Going l s k y y′ w w′ g (p .tree) (p .end) → Readable (partOf l) (g .count) s (g .next)
+  pub ready-part : (l : Level) {k i : ℕ} {w w′ : List ℕ} {g : Fragment} (p : Readable l k s i) → Going l s k w w′ g (p .tree) (p .end) → Readable (partOf l) (g .count) s (g .next)
   ready-part l p q = part-ready l _ (p .short) (q .right .counts) (q .left) (p .brief)
 
   -- ---- an atom and its marks
@@ -129,7 +129,7 @@ module _ {s : List ℕ} where
   pub ready-atom : {k i : ℕ} → Readable factors k s i → Readable atoms k s i
   ready-atom p = let a = atom-first (p .whole .0) in ready atoms (p .short) (a .head) (omega (arith, marks-size (a .left), p .brief))
 
-  pub marks-begun : {i k j : ℕ} {u : Tree} {y y′ w w′ : List ℕ} {g : Fragment} → Answer atoms s i k y y′ w w′ g → Reads s factors i j u → Marking s k y y′ w w′ g u j
+  pub marks-begun : {i k j : ℕ} {u : Tree} {w w′ : List ℕ} {g : Fragment} → Answer atoms s i k w w′ g → Reads s factors i j u → Marking s k w w′ g u j
   marks-begun {j = j} {u = u} a r =
       let f = atom-first r in
       let x = a .says (f .end) (f .tree) (f .head) in

@@ -7,8 +7,8 @@
 --   grown l so t: the tree with one part more
 --   reOf l so: the expression of what was read; nothing counts as the empty word beside others, and as no word joined with others
 --   PartsLeft s l so j u k: after what was read so far, the parts from j on make the l with the tree u, up to k
---   Going l s k y y′ w w′ g u j: g is a first part of the l with the tree u that ends at j, with parts left
---   Begun l s i k y y′ w w′ g: so it is for every l that can be read at i
+--   Going l s k w w′ g u j: g is a first part of the l with the tree u that ends at j, with parts left
+--   Begun l s i k w w′ g: so it is for every l that can be read at i
 use Prim.Native.Nat.{ℕ, _+_}
 use Prim.Native.Char.{code}
 use mathlib.Core.Path.{_≡_}
@@ -62,10 +62,10 @@ pub data PartsLeft (s : List ℕ) (l : Level) : SoFar → ℕ → Tree → ℕ �
   last-part : {so : SoFar} {t u : Tree} {j k : ℕ} → WholeLevel (partOf l) s j k t → u ≡ grown l so t → PartsLeft s l so j u k
   more-parts : {so : SoFar} {t u : Tree} {j k m : ℕ} → WholeLevel (partOf l) s j m t → GoesOn l (byte s m) → PartsLeft s l (so-far (grown l so t)) (afterBar l m) u k → PartsLeft s l so j u k
 
-pub record Going (l : Level) (s : List ℕ) (k : ℕ) (y y′ w w′ : List ℕ) (g : Fragment) (u : Tree) (j : ℕ) : Type 0 where
+pub record Going (l : Level) (s : List ℕ) (k : ℕ) (w w′ : List ℕ) (g : Fragment) (u : Tree) (j : ℕ) : Type 0 where
   pub so : SoFar
-  pub right : Right (reOf l so) k y y′ w w′ g
+  pub right : Right (reOf l so) k w w′ g
   pub left : PartsLeft s l so (g .next) u j
 
-pub record Begun (l : Level) (s : List ℕ) (i k : ℕ) (y y′ w w′ : List ℕ) (g : Fragment) : Type 0 where
-  pub says : (j : ℕ) (t : Tree) → WholeLevel l s i j t → Going l s k y y′ w w′ g t j
+pub record Begun (l : Level) (s : List ℕ) (i k : ℕ) (w w′ : List ℕ) (g : Fragment) : Type 0 where
+  pub says : (j : ℕ) (t : Tree) → WholeLevel l s i j t → Going l s k w w′ g t j

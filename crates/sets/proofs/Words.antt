@@ -1,13 +1,15 @@
 -- What w words are as a number, over w: an operation that goes digit by digit goes word by word. By induction on w, the lowest word first.
 --   value-or, value-and: the union and what is common
 --   value-none, value-load, value-equal, value-other: the empty set, a set of a buffer, and when two sets are the same
---   has-at, one-at: the bit p stands in the word p / 64
+--   has-set, has-at, one-at: the bit p stands in the word p / 64
+--   set-above: no others are there
 --   put, set-kept, put-other: a set stored in a buffer; a set whose words stay; the others there
 use Prim.Native.Nat.{ℕ, zero, suc, _+_, _-_, _*_, _/_, _%_, _^_, _≤_, _<_}
 use mathlib.Core.Path.{_≡_, refl, sym, ap, ap₂, _∙_}
+use mathlib.Core.Bool.{false}
 use mathlib.Core.List.{List}
 use mathlib.Core.Logic.{_⊎_, inl, inr}
-use native.Mathlib.Nat.{add-zero, zero-add, add-suc, suc-add, mul-assoc, mul-add-div-right, mul-add-mod-self-right, div-eq-of-lt, mod-eq-of-lt, mod-lt, mod-mod, div-add-mod'}
+use native.Mathlib.Nat.{add-zero, zero-add, add-suc, suc-add, suc-mul, mul-assoc, mul-le-mul-right, lt-of-lt-of-le, mul-add-div-right, mul-add-mod-self-right, div-eq-of-lt, mod-eq-of-lt, mod-lt, mod-mod, div-add-mod'}
 use native.Mathlib.Omega.{arith}
 use native.Mathlib.Decide.{ℕ-discrete}
 use lib.Dec.{eqb}
@@ -17,7 +19,8 @@ use lib.ListN.{getD, set, replicate, getD-replicate}
 use lib.Seq.{getD-set-same, getD-set-other}
 use Rattle.scope.specs.Positions.Bits.{has}
 use Rattle.scope.specs.Limits.{setWords}
-use Rattle.scope.proofs.Counting.Tests.{split}
+use Rattle.scope.proofs.Counting.Tests.{split, which}
+use Rattle.scope.proofs.Positions.Bits.{has-small}
 use Rattle.buffers.specs.Stored.{Stored}
 use Rattle.sets.specs.Value.{setBits, valueAt, setValue, setAt, Put}
 
@@ -120,6 +123,24 @@ has-value (suc w) m k (suc i) j h l =
     ∙ ap (λ (n : ℕ). has n (64 * i + j)) (high _ _)
     ∙ has-value w m (suc k) i j (omega arith) l
     ∙ ap (λ (n : ℕ). has n j) (on m k i)
+
+-- the bits of a set of a buffer
+pub has-set : (m : List ℕ) (i w j : ℕ) → w < setWords → j < 64 → has (setAt m i) (64 * w + j) ≡ has (getD m (i * setWords + w) 0) j
+has-set m i w j h l = has-value setWords m (i * setWords) w j h l
+
+-- which has no others
+value-lt : (w : ℕ) (m : List ℕ) (k : ℕ) → valueAt m k w < 2 ^ (64 * w)
+unfolding valueAt
+value-lt zero m k = omega arith
+value-lt (suc w) m k =
+    let e : 64 * suc w ≡ 64 * w + 64 = omega arith in
+    rw (e, pow-add 2 (64 * w) 64) (lt-of-lt-of-le (block (valueAt m (suc k) w) (getD m k 0 % 2 ^ 64) (2 ^ 64) (small (getD m k 0))) (mul-le-mul-right (2 ^ 64) (value-lt w m (suc k))))
+  where
+    block : (a b c : ℕ) → b < c → a * c + b < suc a * c
+    block a b c h = omega (arith, suc-mul a c)
+
+pub set-above : (m : List ℕ) (i p : ℕ) → setBits ≤ p → has (setAt m i) p ≡ false
+set-above m i p h = elim (which (has (setAt m i) p)) [ inl e ↦ absurd (omega (arith, has-small (setAt m i) p setBits e (value-lt setWords m (i * setWords)))) | inr e ↦ e ]
 
 -- the position p stands in the word p / 64
 pub has-at : (m : List ℕ) (p : ℕ) → p < setBits → has (getD m (p / 64) 0) (p % 64) ≡ has (setValue m) p

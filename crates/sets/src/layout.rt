@@ -11,5 +11,10 @@ pub const IMAGE_AT: usize = Machine::POSITIONS * BYTE_SET;
 // The words hold First and the follow set of each position, then the reached sets: the number of the first of these.
 pub const SETS_AT: usize = Set::BITS;
 
-// How many words the sets before it have.
-pub const WORD_SETS: usize = SETS_AT * Machine::SET_WORDS;
+// While a text is read, First has the number 0, which no position has, and Last that of the first reached set.
+pub const FIRST_AT: usize = 0;
+
+pub const LAST_AT: usize = SETS_AT;
+
+// How many words reading uses.
+pub const READ_WORDS: usize = LAST_AT * Machine::SET_WORDS + Machine::SET_WORDS;

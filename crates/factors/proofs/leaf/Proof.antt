@@ -4,14 +4,14 @@ use borrow.Author.Needs.{needs}
 use Rattle.factors.proofs.leaf.Statement.{statement}
 use Rattle.factors.proofs.leaf.Tie as tie
 
-single-requires : tie.Need-single-requires
-single-requires c κs = let i = c .before .before in let s = i .before .before .before .before in (leaf-some (s .pre .0 .0) (i .before .escaped .ensures) (s .pre .0 .1) (i .if1 .left) (c .before .if2 .left), (leaf-room (s .pre .0 .0) (i .before .escaped .ensures) (s .pre .0 .1) (i .if1 .left) (c .before .if2 .left), search needs))
+single-end-requires : tie.Need-single-end-requires
+single-end-requires c κs = let i = c .before in let s = i .before .before .before .before in leaf-some (s .pre .0 .0) (i .before .escaped .ensures) (s .pre .0 .1) (i .if1 .left) (c .if2 .left)
 
 alone-requires : tie.Need-alone-requires
-alone-requires c κs = let i = c .before .before .before .before in let s = i .before .before .before .before .before in leaf-room (s .pre .0 .0) (i .before .before .escaped .ensures) (s .pre .0 .1) (i .before .if1 .left) (i .if2 .left)
+alone-requires c κs = let i = c .before .before in let s = i .before .before .before .before .before in (leaf-room (s .pre .0 .0) (i .before .before .escaped .ensures) (s .pre .0 .1) (i .before .if1 .left) (i .if2 .left), search needs)
 
 returns-3 : tie.Need-returns-3
-returns-3 c = let i = c .before .before .before .before .before in let s = i .before .before .before .before .before in leaf-single (s .pre .0 .0) (i .before .before .escaped .ensures) (s .pre .0 .1) (i .before .if1 .left) (i .if2 .left) (c .before .before .before .single .ensures) (c .alone .ensures)
+returns-3 c = let i = c .before .before .before .before .before in let s = i .before .before .before .before .before in leaf-single (s .pre .0 .0) (i .before .before .escaped .ensures) (s .pre .0 .1) (i .before .if1 .left) (i .if2 .left) (c .before .before .before .before .single-end .ensures) (c .before .before .alone .ensures)
 
 pub leaf-spec : {M : Type 1} → statement M
 leaf-spec =
@@ -24,7 +24,7 @@ leaf-spec =
     (λ c. search needs)
     (λ c κs. search needs)
     (λ c. leaf-nothing (c .before .before .before .before .before .before .pre .0 .0) (c .before .before .before .escaped .ensures) (c .before .if2 .taken) (c .blank2 .ensures))
-    single-requires
+    single-end-requires
     alone-requires
     (λ c. search needs)
     returns-3)

@@ -13,16 +13,16 @@ use Rattle.factors.proofs.marks.Statement.{statement}
 use Rattle.factors.proofs.marks.Tie as tie
 
 abbrev Inv-loop : tie.InvT-loop
-Inv-loop text words₀ all₀ words all = (all₀ .next ≤ all .next) × (length words ≡ length words₀) × Fit text words all × ((y : List ℕ) → Carried text y words₀ all₀ y words all)
+Inv-loop text from words₀ all₀ words all = (all₀ .next ≤ all .next) × (length words ≡ length words₀) × Fit text from words all × Carried text from words₀ all₀ words all
 
 abbrev μ-loop : tie.MeasureT-loop
-μ-loop text words₀ all₀ words all = length text - all .next
+μ-loop text from words₀ all₀ words all = length text - all .next
 
 loop-holds : tie.Need-loop-holds Inv-loop μ-loop
-loop-holds c = (search needs, refl, c .before .before .pre, λ y. carried-none _ _ _ _)
+loop-holds c = (search needs, refl, c .before .before .pre, carried-none _ _ _ _)
 
 marked-requires : tie.Need-marked-requires Inv-loop μ-loop
-marked-requires c κs = let f = c .before .before .before .before .before .before .loop .inv .2 in ((f .few, f .words), f .within)
+marked-requires c κs = let f = c .before .before .before .before .before .before .loop .inv .2 in (f .some, f .few, f .words)
 
 loop-less : tie.Need-loop-less Inv-loop μ-loop
 loop-less c =
@@ -37,10 +37,10 @@ loop-again c =
     let h = mark-told (t .before .before .byte-at .ensures .0) (t .before .is-mark .ensures) (t .if1 .taken) in
     let b = c .before .before .before .before .before .byte-at2 .ensures .0 in
     let m = c .before .before .marked .ensures in
-    (omega (arith, m .moved .nexts), m .linked .kept .size ∙ l .loop .inv .1, mark-fit (l .loop .inv .2) (mark-inside (l .before .before .before .args .text .now) (l .loop .all .next) h) (m .linked .kept .size) m, λ y. carried-more (l .loop .inv .3 y) (mark-turn b (ap isMark b ∙ h) m y))
+    (omega (arith, m .moved .nexts), m .linked .kept .size ∙ l .loop .inv .1, mark-fit (l .loop .inv .2) (mark-inside (l .before .before .before .args .text .now) (l .loop .all .next) h) (m .linked .kept .size) m, carried-more (l .loop .inv .3) (mark-turn b (ap isMark b ∙ h) (l .loop .inv .2 .few) m))
 
 returns : tie.Need-returns Inv-loop μ-loop
-returns c = let l = c .before .before .before .loop in record { on = l .inv .0; inside = l .inv .2 .inside; ends = mark-told (c .before .before .byte-at .ensures .0) (c .before .is-mark .ensures) (c .if1 .left); says = l .inv .3 }
+returns c = let l = c .before .before .before .loop in record { on = l .inv .0; inside = l .inv .2 .inside; ends = mark-told (c .before .before .byte-at .ensures .0) (c .before .is-mark .ensures) (c .if1 .left); carried = l .inv .3 }
 
 pub marks-spec : {M : Type 1} → statement M
 marks-spec =

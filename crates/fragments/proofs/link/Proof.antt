@@ -1,30 +1,29 @@
--- The invariant: the positions below p are linked.
-use Prim.Native.Nat.{_+_, _-_, _≤_}
-use mathlib.Core.Path.{_≡_, refl, ap, ap₂, _∙_}
+-- The invariant: the positions up to p are linked.
+use Prim.Native.Nat.{ℕ, _-_, _≤_}
+use mathlib.Core.Bool.{true}
+use mathlib.Core.Path.{_≡_, refl, subst}
 use native.Mathlib.Omega.{arith}
 use borrow.Author.Needs.{needs}
-use lib.Bits.{bitOr}
 use lib.ListN.{length}
-use Rattle.scope.specs.Positions.Bits.{given}
-use Rattle.sets.specs.Value.{setValue}
-use Rattle.fragments.proofs.FollowLinks.{Linking, link-none, link-more, link-all}
+use Rattle.fragments.specs.Shapes.{Linked}
+use Rattle.fragments.proofs.FollowLinks.{linked-none, linked-more}
 use Rattle.fragments.proofs.link.Statement.{statement}
 use Rattle.fragments.proofs.link.Tie as tie
 
 abbrev Inv-loop : tie.InvT-loop
-Inv-loop words₀ count last first p₀ words p = (p ≤ count + 1) × (length words ≡ length words₀) × Linking p (setValue (last .words)) (setValue (first .words)) words₀ words
+Inv-loop words₀ from to after upto p₀ words p = (from ≤ p) × (p ≤ to) × (length words ≡ length words₀) × Linked true from p after upto words₀ words
 
 abbrev μ-loop : tie.MeasureT-loop
-μ-loop words₀ count last first p₀ words p = count + 1 - p
+μ-loop words₀ from to after upto p₀ words p = to - p
 
 loop-holds : tie.Need-loop-holds Inv-loop μ-loop
-loop-holds c = (search needs, refl, link-none _ _ _)
+loop-holds c = (search needs, search needs, refl, linked-none _ _ _ _)
 
 loop-again : tie.Need-loop-again Inv-loop μ-loop
-loop-again c = let j = c .before .before .before .before in (search needs, search needs, link-more (j .before .before .before .before .before .before .loop .inv .2) (omega arith) (j .joined .ensures ∙ ap₂ bitOr (j .before .before .before .load .ensures) (j .before .given .ensures ∙ ap (λ b. given b (setValue (j .before .before .before .before .before .before .before .before .args .first .words))) (j .before .before .has .ensures))) (c .before .before .store .ensures))
+loop-again c = let l = c .before .before .before .before .before .before .before in let s = l .before .before in (omega arith, omega (arith, s .pre), search needs, linked-more (omega arith) (omega (arith, s .pre)) (l .loop .inv .3) (c .before .before .before .before .is-in .ensures) (c .before .before .put .ensures))
 
 returns : tie.Need-returns Inv-loop μ-loop
-returns c = link-all (c .before .loop .inv .2) (omega arith) (c .before .before .before .pre .1)
+returns c = let a = c .before .before .before .args in let l = c .before .loop in let e : l .p ≡ a .to = omega arith in subst (λ (n : ℕ). Linked true (a .from) n (a .after) (a .upto) (a .words .now) (l .words)) e (l .inv .3)
 
 pub link-spec : {M : Type 1} → statement M
 link-spec =
@@ -33,12 +32,9 @@ link-spec =
     Inv-loop
     μ-loop
     loop-holds
-    (λ c κs. search needs)
-    (λ c κs. search needs)
-    (λ c κs. search needs)
-    (λ c κs. search needs)
-    (λ c κs. search needs)
     (λ c. search needs)
+    (λ c κs. let l = c .before .before in (omega (arith, l .before .before .pre), omega (arith, l .before .before .pre .1, l .loop .inv .2)))
+    (λ c κs. let l = c .before .before .before .before in (λ z. omega arith, omega (arith, l .before .before .pre, l .loop .inv .2), omega (arith, l .before .before .pre .1, l .loop .inv .2)))
     (λ c. search needs)
     loop-again
     (λ c. search needs)

@@ -18,8 +18,8 @@ use Rattle.pattern.proofs.Tails.{ready-atom, ready-part}
 use Rattle.pattern.proofs.Groups.{ready-inner, answer-inner}
 use Rattle.factors.specs.Tails.{stops}
 use Rattle.leaves.proofs.ByteByByte.{inside}
-use Rattle.factors.proofs.Rights.{right-within, right-moved}
-use Rattle.pattern.proofs.Turns.{factor-fit, factor-found, no-factor, no-branch, going, going-small, parts-more, parts-found, join-factor, join-branch}
+use Rattle.factors.proofs.Rights.{right-moved}
+use Rattle.pattern.proofs.Turns.{factor-fit, factor-found, no-factor, no-branch, going, going-some, going-small, parts-more, parts-found, join-factor, join-branch}
 use borrow.Fn.Kinds.{In}
 use borrow.Fn.PlainCycle.{Measures, is, falls, and}
 use Rattle.pattern.proofs.readers.atom.Reads as atom
@@ -39,93 +39,89 @@ use Rattle.factors.proofs.marks.Reads as marks-reads
 use Rattle.fragments.proofs.beside.Reads as beside-reads
 use Rattle.fragments.proofs.blank.Reads as blank-reads
 use Rattle.fragments.proofs.either.Reads as either-reads
-use Rattle.fragments.proofs.link.Reads as link-reads
 use Rattle.fragments.proofs.moved.Reads as moved-reads
 use Rattle.leaves.proofs.text.byte_at.Reads as byte-at-reads
 use Rattle.pattern.proofs.readers.ends_branch.Reads as ends-branch-reads
 use Rattle.pattern.proofs.readers.+atom+branch+expr+factor.{statement}
 use Rattle.pattern.proofs.readers.+atom+branch+expr+factor.Tie.{close}
 
-abbrev μ-atom : Measures 3 atom-kinds.ps ℕ
+abbrev μ-atom : Measures 2 atom-kinds.ps ℕ
 μ-atom κs a = 4 * (length (a .0 .now) - a .1 .0) + 0
 
-abbrev μ-branch : Measures 3 branch-kinds.ps ℕ
+abbrev μ-branch : Measures 2 branch-kinds.ps ℕ
 μ-branch κs a = 4 * (length (a .0 .now) - a .1 .0) + 2
 
-abbrev μ-expr : Measures 3 expr-kinds.ps ℕ
+abbrev μ-expr : Measures 2 expr-kinds.ps ℕ
 μ-expr κs a = 4 * (length (a .0 .now) - a .1 .0) + 3
 
-abbrev μ-factor : Measures 3 factor-kinds.ps ℕ
+abbrev μ-factor : Measures 2 factor-kinds.ps ℕ
 μ-factor κs a = 4 * (length (a .0 .now) - a .1 .0) + 1
 
-abbrev atom-at : ℕ → In 3 atom-kinds.ps
-atom-at t = and 3 atom-kinds.ps (is 3 atom-kinds.ps μ-atom t) atom.Pre
+abbrev atom-at : ℕ → In 2 atom-kinds.ps
+atom-at t = and 2 atom-kinds.ps (is 2 atom-kinds.ps μ-atom t) atom.Pre
 
-abbrev atom-below : ℕ → In 3 atom-kinds.ps
-atom-below t = and 3 atom-kinds.ps (falls 3 atom-kinds.ps _<_ μ-atom t) atom.Pre
+abbrev atom-below : ℕ → In 2 atom-kinds.ps
+atom-below t = and 2 atom-kinds.ps (falls 2 atom-kinds.ps _<_ μ-atom t) atom.Pre
 
-abbrev branch-at : ℕ → In 3 branch-kinds.ps
-branch-at t = and 3 branch-kinds.ps (is 3 branch-kinds.ps μ-branch t) branch.Pre
+abbrev branch-at : ℕ → In 2 branch-kinds.ps
+branch-at t = and 2 branch-kinds.ps (is 2 branch-kinds.ps μ-branch t) branch.Pre
 
-abbrev branch-below : ℕ → In 3 branch-kinds.ps
-branch-below t = and 3 branch-kinds.ps (falls 3 branch-kinds.ps _<_ μ-branch t) branch.Pre
+abbrev branch-below : ℕ → In 2 branch-kinds.ps
+branch-below t = and 2 branch-kinds.ps (falls 2 branch-kinds.ps _<_ μ-branch t) branch.Pre
 
-abbrev expr-at : ℕ → In 3 expr-kinds.ps
-expr-at t = and 3 expr-kinds.ps (is 3 expr-kinds.ps μ-expr t) expr.Pre
+abbrev expr-at : ℕ → In 2 expr-kinds.ps
+expr-at t = and 2 expr-kinds.ps (is 2 expr-kinds.ps μ-expr t) expr.Pre
 
-abbrev expr-below : ℕ → In 3 expr-kinds.ps
-expr-below t = and 3 expr-kinds.ps (falls 3 expr-kinds.ps _<_ μ-expr t) expr.Pre
+abbrev expr-below : ℕ → In 2 expr-kinds.ps
+expr-below t = and 2 expr-kinds.ps (falls 2 expr-kinds.ps _<_ μ-expr t) expr.Pre
 
-abbrev factor-at : ℕ → In 3 factor-kinds.ps
-factor-at t = and 3 factor-kinds.ps (is 3 factor-kinds.ps μ-factor t) factor.Pre
+abbrev factor-at : ℕ → In 2 factor-kinds.ps
+factor-at t = and 2 factor-kinds.ps (is 2 factor-kinds.ps μ-factor t) factor.Pre
 
-abbrev factor-below : ℕ → In 3 factor-kinds.ps
-factor-below t = and 3 factor-kinds.ps (falls 3 factor-kinds.ps _<_ μ-factor t) factor.Pre
+abbrev factor-below : ℕ → In 2 factor-kinds.ps
+factor-below t = and 2 factor-kinds.ps (falls 2 factor-kinds.ps _<_ μ-factor t) factor.Pre
 
 abbrev branch-Inv-loop : branch-lts.InvT-loop
-branch-Inv-loop text at count bytes₀ words₀ all₀ bytes words all = (at ≤ all .next) × (all .next ≤ length text) × (length bytes ≡ length bytes₀) × (length words ≡ length words₀) × Begun branches text at count bytes₀ bytes words₀ words all
+branch-Inv-loop text at count words₀ all₀ words all = (at ≤ all .next) × (all .next ≤ length text) × (length words ≡ length words₀) × Begun branches text at count words₀ words all
 
 abbrev branch-μ-loop : branch-lts.MeasureT-loop
-branch-μ-loop text at count bytes₀ words₀ all₀ bytes words all = length text - all .next
+branch-μ-loop text at count words₀ all₀ words all = length text - all .next
 
 abbrev expr-Inv-loop : expr-lts.InvT-loop
-expr-Inv-loop text at count bytes₀ words₀ all₀ bytes words all = (at ≤ all .next) × (all .next ≤ length text) × (length bytes ≡ length bytes₀) × (length words ≡ length words₀) × Begun exprs text at count bytes₀ bytes words₀ words all
+expr-Inv-loop text at count words₀ all₀ words all = (at ≤ all .next) × (all .next ≤ length text) × (length words ≡ length words₀) × Begun exprs text at count words₀ words all
 
 abbrev expr-μ-loop : expr-lts.MeasureT-loop
-expr-μ-loop text at count bytes₀ words₀ all₀ bytes words all = length text - all .next
+expr-μ-loop text at count words₀ all₀ words all = length text - all .next
 
 atom-part : {M : Type 1} (t : ℕ) → atom-lts.Closed (byte-at-reads.Asked, byte-at-reads.Learnt, expr-below t, expr.Post, moved-reads.Asked, moved-reads.Learnt, leaf-reads.Asked, leaf-reads.Learnt) (atom-at t) atom.Post M
 atom-part t = atom-lts.spec (byte-at-reads.Asked, byte-at-reads.Learnt, expr-below t, expr.Post, moved-reads.Asked, moved-reads.Learnt, leaf-reads.Asked, leaf-reads.Learnt) (atom-at t)
     atom.Post
     (λ c κs. search needs)
     (λ c. search needs)
-    (λ c κs. (omega arith, (ready-inner (c .before .before .before .before .before .before .before .pre .1 .0) (c .before .before .before .byte-at .ensures .0) (c .before .before .if1 .taken), search needs)))
+    (λ c κs. (omega arith, (ready-inner (c .before .before .before .before .before .pre .1 .0) (c .before .before .byte-at .ensures .0) (c .before .if1 .taken), search needs)))
     (λ c. search needs)
     (λ c κs. search needs)
-    (λ c κs. ((c .before .before .before .before .before .before .pre .1 .0, λ e. c .before .if1 .left (c .before .before .byte-at .ensures .0 ∙ e)), search needs))
+    (λ c κs. ((c .before .before .before .before .before .pre .1 .0, λ e. c .before .if1 .left (c .before .before .byte-at .ensures .0 ∙ e)), search needs))
     (λ c. search needs)
+    (λ c. answer-inner (c .before .before .before .before .before .before .before .before .before .before .pre .1 .0) (c .before .before .before .before .before .before .before .byte-at .ensures .0) (c .before .before .before .before .before .before .if1 .taken) (c .before .before .before .before .expr .ensures) (c .moved .ensures))
     (λ c. search needs)
-    (λ c. let e = c .before .before .before .before .before .before in answer-inner (e .before .before .before .before .before .before .before .before .pre .1 .0) (e .before .before .before .before .byte-at .ensures .0) (e .before .before .before .if1 .taken) (e .expr .ensures) (c .moved .ensures))
-    (λ c. search needs)
-    (λ c. c .before .before .leaf .ensures _)
+    (λ c. c .before .before .leaf .ensures)
 
-branch-part : {M : Type 1} (t : ℕ) → branch-lts.Closed (blank-reads.Asked, blank-reads.Learnt, factor-below t, factor.Post, link-reads.Asked, link-reads.Learnt, beside-reads.Asked, beside-reads.Learnt, byte-at-reads.Asked, byte-at-reads.Learnt, ends-branch-reads.Asked, ends-branch-reads.Learnt) (branch-at t) branch.Post M
-branch-part t = branch-lts.spec (blank-reads.Asked, blank-reads.Learnt, factor-below t, factor.Post, link-reads.Asked, link-reads.Learnt, beside-reads.Asked, beside-reads.Learnt, byte-at-reads.Asked, byte-at-reads.Learnt, ends-branch-reads.Asked, ends-branch-reads.Learnt) (branch-at t)
+branch-part : {M : Type 1} (t : ℕ) → branch-lts.Closed (blank-reads.Asked, blank-reads.Learnt, factor-below t, factor.Post, beside-reads.Asked, beside-reads.Learnt, byte-at-reads.Asked, byte-at-reads.Learnt, ends-branch-reads.Asked, ends-branch-reads.Learnt) (branch-at t) branch.Post M
+branch-part t = branch-lts.spec (blank-reads.Asked, blank-reads.Learnt, factor-below t, factor.Post, beside-reads.Asked, beside-reads.Learnt, byte-at-reads.Asked, byte-at-reads.Learnt, ends-branch-reads.Asked, ends-branch-reads.Learnt) (branch-at t)
     branch.Post
     branch-Inv-loop
     branch-μ-loop
     (λ c κs. search needs)
-    (λ c. let p = c .before .before .before .before .pre .1 .0 in (omega (arith, c .blank .ensures .nexts), omega (arith, p .inside, c .blank .ensures .nexts), refl, refl, no-factor (c .blank .ensures)))
-    (λ c κs. (omega arith, (let l = c .before .before in let p = l .before .before .before .before .before .pre .1 .0 in ready-part branches p (going branches p (l .loop .inv .4)), search needs)))
-    (λ c κs. let l = c .before .before .before .before .before .before .before .before in let s = l .before .before .before .before .before in let p = s .pre .1 .0 in let b = l .loop .inv .4 in ((going-small branches p b, omega (arith, s .pre .1 .1 .words, l .loop .inv .3, c .before .before .words .given)), right-within (going branches p b .right)))
-    (λ c κs. search needs)
+    (λ c. let p = c .before .before .before .pre .1 .0 in (omega (arith, c .blank .ensures .nexts), omega (arith, p .inside, c .blank .ensures .nexts), refl, no-factor (c .blank .ensures)))
+    (λ c κs. (omega arith, (let l = c .before in let p = l .before .before .before .before .pre .1 .0 in ready-part branches p (going branches p (l .loop .inv .3)), search needs)))
+    (λ c κs. let l = c .before .before .before .before .before in let s = l .before .before .before .before in let p = s .pre .1 .0 in let b = l .loop .inv .3 in (going-some branches p b, going-small branches p b, omega (arith, s .pre .1 .1, l .loop .inv .2, c .before .before .words .given)))
     (λ c κs. search needs)
     (λ c κs. search needs)
     (λ c. search needs)
-    (λ c. search needs)
-    (λ c. parts-found branches (c .before .before .before .before .before .before .before .before .before .before .before .before .before .before .before .loop .inv .4) (c .before .before .before .before .before .before .before .before .before .before .before .before .factor .ensures) (join-factor (c .before .before .before .before .before .before .link .ensures) (c .before .before .before .beside .ensures)) (c .before .before .before .before .before .before .before .before .before .before .before .before .before .before .before .before .before .before .before .before .pre .1 .0) (c .before .before .before .beside .ensures .nexts) (λ z. false≢true (sym z ∙ ap stops (sym (c .before .before .byte-at .ensures .0 ∙ ap (byte (c .before .before .before .before .before .before .before .before .before .before .before .before .before .before .before .before .before .before .before .before .args .text .now)) (c .before .before .before .beside .ensures .nexts))) ∙ sym (c .before .ends-branch .ensures) ∙ c .if1 .taken)))
-    (λ c. omega (arith, c .before .before .before .before .before .before .before .before .before .before .before .before .factor .ensures .on, c .before .before .before .before .before .before .before .before .before .before .before .before .factor .ensures .inside, c .before .before .before .beside .ensures .nexts))
-    (λ c. let f = c .before .before .before .before .before .before .before .before .before .before .before .before .factor .ensures in let e = c .before .before .before .beside .ensures in (omega (arith, f .on, e .nexts, c .before .before .before .before .before .before .before .before .before .before .before .before .before .before .before .loop .inv .0), omega (arith, f .inside, e .nexts), search needs, search needs, parts-more branches (c .before .before .before .before .before .before .before .before .before .before .before .before .before .before .before .loop .inv .4) f (join-factor (c .before .before .before .before .before .before .link .ensures) (c .before .before .before .beside .ensures)) (e .nexts) (ap stops (sym (c .before .before .byte-at .ensures .0 ∙ ap (byte (c .before .before .before .before .before .before .before .before .before .before .before .before .before .before .before .before .before .before .before .before .args .text .now)) (c .before .before .before .beside .ensures .nexts))) ∙ sym (c .before .ends-branch .ensures) ∙ c .if1 .left)))
+    (λ c. parts-found branches (c .before .before .before .before .before .before .before .before .before .before .before .loop .inv .3) (c .before .before .before .before .before .before .before .before .before .factor .ensures) (join-factor (going-small branches (c .before .before .before .before .before .before .before .before .before .before .before .before .before .before .before .pre .1 .0) (c .before .before .before .before .before .before .before .before .before .before .before .loop .inv .3)) (c .before .before .before .before .before .beside .ensures)) (c .before .before .before .before .before .before .before .before .before .before .before .before .before .before .before .pre .1 .0) (c .before .before .before .before .before .beside .ensures .nexts) (λ z. false≢true (sym z ∙ ap stops (sym (c .before .before .byte-at .ensures .0 ∙ ap (byte (c .before .before .before .before .before .before .before .before .before .before .before .before .before .before .before .args .text .now)) (c .before .before .before .before .before .beside .ensures .nexts))) ∙ sym (c .before .ends-branch .ensures) ∙ c .if1 .taken)))
+    (λ c. omega (arith, c .before .before .before .before .before .before .before .before .before .factor .ensures .on, c .before .before .before .before .before .before .before .before .before .factor .ensures .inside, c .before .before .before .before .before .beside .ensures .nexts))
+    (λ c. let f = c .before .before .before .before .before .before .before .before .before .factor .ensures in let e = c .before .before .before .before .before .beside .ensures in (omega (arith, f .on, e .nexts, c .before .before .before .before .before .before .before .before .before .before .before .loop .inv .0), omega (arith, f .inside, e .nexts), search needs, parts-more branches (c .before .before .before .before .before .before .before .before .before .before .before .loop .inv .3) f (join-factor (going-small branches (c .before .before .before .before .before .before .before .before .before .before .before .before .before .before .before .pre .1 .0) (c .before .before .before .before .before .before .before .before .before .before .before .loop .inv .3)) (c .before .before .before .before .before .beside .ensures)) (e .nexts) (ap stops (sym (c .before .before .byte-at .ensures .0 ∙ ap (byte (c .before .before .before .before .before .before .before .before .before .before .before .before .before .before .before .args .text .now)) (c .before .before .before .before .before .beside .ensures .nexts))) ∙ sym (c .before .ends-branch .ensures) ∙ c .if1 .left)))
 
 expr-part : {M : Type 1} (t : ℕ) → expr-lts.Closed (blank-reads.Asked, blank-reads.Learnt, branch-below t, branch.Post, either-reads.Asked, either-reads.Learnt, byte-at-reads.Asked, byte-at-reads.Learnt, moved-reads.Asked, moved-reads.Learnt) (expr-at t) expr.Post M
 expr-part t = expr-lts.spec (blank-reads.Asked, blank-reads.Learnt, branch-below t, branch.Post, either-reads.Asked, either-reads.Learnt, byte-at-reads.Asked, byte-at-reads.Learnt, moved-reads.Asked, moved-reads.Learnt) (expr-at t)
@@ -133,26 +129,24 @@ expr-part t = expr-lts.spec (blank-reads.Asked, blank-reads.Learnt, branch-below
     expr-Inv-loop
     expr-μ-loop
     (λ c κs. search needs)
-    (λ c. let p = c .before .before .before .before .pre .1 .0 in (omega (arith, c .blank .ensures .nexts), omega (arith, p .inside, c .blank .ensures .nexts), refl, refl, no-branch (c .blank .ensures)))
-    (λ c κs. (omega arith, (let l = c .before .before in let p = l .before .before .before .before .before .pre .1 .0 in ready-part exprs p (going exprs p (l .loop .inv .4)), search needs)))
+    (λ c. let p = c .before .before .before .pre .1 .0 in (omega (arith, c .blank .ensures .nexts), omega (arith, p .inside, c .blank .ensures .nexts), refl, no-branch (c .blank .ensures)))
+    (λ c κs. (omega arith, (let l = c .before in let p = l .before .before .before .before .pre .1 .0 in ready-part exprs p (going exprs p (l .loop .inv .3)), search needs)))
     (λ c κs. search needs)
     (λ c κs. search needs)
     (λ c. search needs)
-    (λ c. search needs)
-    (λ c. parts-found exprs (c .before .before .before .before .before .before .before .before .before .before .loop .inv .4) (c .before .before .before .before .before .before .before .branch .ensures) (join-branch (c .before .before .either .ensures)) (c .before .before .before .before .before .before .before .before .before .before .before .before .before .before .before .pre .1 .0) (c .before .before .either .ensures .nexts) (λ z. c .if1 .taken ((c .before .byte-at .ensures .0 ∙ ap (byte (c .before .before .before .before .before .before .before .before .before .before .before .before .before .before .before .args .text .now)) (c .before .before .either .ensures .nexts)) ∙ z)))
-    (λ c. omega (arith, c .before .before .before .before .before .before .before .before .branch .ensures .inside, c .before .before .before .either .ensures .nexts, c .before .before .before .before .before .before .before .before .before .before .before .before .before .before .before .before .pre .1 .0 .short))
+    (λ c. parts-found exprs (c .before .before .before .before .before .before .before .loop .inv .3) (c .before .before .before .before .before .branch .ensures) (join-branch (c .before .before .either .ensures)) (c .before .before .before .before .before .before .before .before .before .before .before .pre .1 .0) (c .before .before .either .ensures .nexts) (λ z. c .if1 .taken ((c .before .byte-at .ensures .0 ∙ ap (byte (c .before .before .before .before .before .before .before .before .before .before .before .args .text .now)) (c .before .before .either .ensures .nexts)) ∙ z)))
+    (λ c. omega (arith, c .before .before .before .before .before .before .branch .ensures .inside, c .before .before .before .either .ensures .nexts, c .before .before .before .before .before .before .before .before .before .before .before .before .pre .1 .0 .short))
     (λ c κs. search needs)
-    (λ c. omega (arith, c .before .before .before .before .before .before .before .before .before .branch .ensures .on, c .before .before .before .before .before .before .before .before .before .branch .ensures .inside, c .before .before .before .before .either .ensures .nexts, c .moved .ensures .nexts))
-    (λ c. let b = c .before .before .before .before .before .before .before .before .before .branch .ensures in let e = c .before .before .before .before .either .ensures in let m = c .moved .ensures in let h = sym (c .before .before .before .byte-at .ensures .0 ∙ ap (byte (c .before .before .before .before .before .before .before .before .before .before .before .before .before .before .before .before .before .args .text .now)) (c .before .before .before .before .either .ensures .nexts)) ∙ c .before .before .if1 .left in (omega (arith, b .on, e .nexts, m .nexts, c .before .before .before .before .before .before .before .before .before .before .before .before .loop .inv .0), omega (arith, e .nexts, m .nexts, inside (c .before .before .before .before .before .before .before .before .before .before .before .before .before .before .before .before .before .args .text .now) (c .before .before .before .before .before .before .before .before .before .branch .result .next) (λ z. omega (arith, h, z))), omega (arith, c .before .before .before .before .before .before .before .before .before .before .before .before .loop .inv .2, c .before .before .before .before .before .before .before .before .bytes .given), omega (arith, c .before .before .before .before .before .before .before .before .before .before .before .before .loop .inv .3, c .before .before .before .before .before .before .words .given), parts-more exprs (c .before .before .before .before .before .before .before .before .before .before .before .before .loop .inv .4) b (λ so t x z. right-moved (join-branch e so t x z) m) (m .nexts ∙ ap (λ n. n + 1) (e .nexts)) h))
+    (λ c. omega (arith, c .before .before .before .before .before .before .before .branch .ensures .on, c .before .before .before .before .before .before .before .branch .ensures .inside, c .before .before .before .before .either .ensures .nexts, c .moved .ensures .nexts))
+    (λ c. let b = c .before .before .before .before .before .before .before .branch .ensures in let e = c .before .before .before .before .either .ensures in let m = c .moved .ensures in let h = sym (c .before .before .before .byte-at .ensures .0 ∙ ap (byte (c .before .before .before .before .before .before .before .before .before .before .before .before .before .args .text .now)) (c .before .before .before .before .either .ensures .nexts)) ∙ c .before .before .if1 .left in (omega (arith, b .on, e .nexts, m .nexts, c .before .before .before .before .before .before .before .before .before .loop .inv .0), omega (arith, e .nexts, m .nexts, inside (c .before .before .before .before .before .before .before .before .before .before .before .before .before .args .text .now) (c .before .before .before .before .before .before .before .branch .result .next) (λ z. omega (arith, h, z))), omega (arith, c .before .before .before .before .before .before .before .before .before .loop .inv .2, c .before .before .before .before .before .before .words .given), parts-more exprs (c .before .before .before .before .before .before .before .before .before .loop .inv .3) b (λ so t x z. right-moved (join-branch e so t x z) m) (m .nexts ∙ ap (λ n. n + 1) (e .nexts)) h))
 
 factor-part : {M : Type 1} (t : ℕ) → factor-lts.Closed (atom-below t, atom.Post, marks-reads.Asked, marks-reads.Learnt) (factor-at t) factor.Post M
 factor-part t = factor-lts.spec (atom-below t, atom.Post, marks-reads.Asked, marks-reads.Learnt) (factor-at t)
     factor.Post
-    (λ c κs. (omega arith, (ready-atom (c .before .before .before .before .before .pre .1 .0), search needs)))
-    (λ c κs. factor-fit (c .before .before .before .before .before .before .before .before .before .before .before .pre .1 .0) (c .before .before .before .before .before .atom .ensures) (search needs))
+    (λ c κs. (omega arith, (ready-atom (c .before .before .before .pre .1 .0), search needs)))
+    (λ c κs. factor-fit (c .before .before .before .before .before .before .before .pre .1 .0) (c .before .before .before .atom .ensures) (search needs))
     (λ c. search needs)
-    (λ c. search needs)
-    (λ c. let a = c .before .before .before .before .before .before .before .before in factor-found (a .before .before .before .before .before .before .pre .1 .0) (a .atom .ensures) (c .before .before .marks .ensures))
+    (λ c. factor-found (c .before .before .before .before .before .before .before .before .before .before .pre .1 .0) (c .before .before .before .before .before .before .atom .ensures) (c .before .before .marks .ensures))
 
 pub +atom+branch+expr+factor-spec : {M : Type 1} → statement M
 +atom+branch+expr+factor-spec = close μ-atom μ-branch μ-expr μ-factor atom-part branch-part expr-part factor-part
