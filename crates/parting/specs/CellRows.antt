@@ -1,22 +1,22 @@
--- Rows: where the first bytes of least lead each state, one state after the other.
---   rowWidth, rowCells: how many cells a row has; the rows of all states
---   RowCell next least rows q i: rows has the state to which the byte i of least leads q
---   CellRows next least rows n: so for each cell in the rows of the first n states
-use Prim.Native.Nat.{ℕ, _+_, _*_, _<_}
-use mathlib.Core.Path.{_≡_}
+-- Rows: where the first bytes of least lead each state. A row is one word of 64 bits, with a cell for each of these bytes, the lowest first.
+--   rowWidth, cellValues: how many cells a row has; how many values a cell
+--   RowFrom next least q i word: word has, the lowest first, the cells of the bytes of least from i on: the states to which they lead q
+--   CellRows next least rows n: rows has the row of each of the first n states
+use Prim.Native.Nat.{ℕ, _+_, _*_, _/_, _^_, _≤_, _<_}
 use mathlib.Core.List.{List}
-use lib.ListN.{getD}
+use lib.ListN.{length, getD}
 use Rattle.two_rooms.specs.Side.{bothLimit}
 
 abbrev pub rowWidth : ℕ
 rowWidth = 4
 
-abbrev pub rowCells : ℕ
-rowCells = bothLimit * rowWidth
+abbrev pub cellValues : ℕ
+cellValues = 2 ^ (64 / rowWidth)
 
-pub record RowCell (next : ℕ → ℕ → ℕ) (least rows : List ℕ) (q i : ℕ) : Type 0 where
-  pub is : getD rows (q * rowWidth + i) 0 ≡ next q (getD least i 0)
-  pub below : getD rows (q * rowWidth + i) 0 < bothLimit
+pub data RowFrom (next : ℕ → ℕ → ℕ) (least : List ℕ) (q : ℕ) : ℕ → ℕ → Type 0 where
+  none : RowFrom next least q rowWidth 0
+  more : {i word : ℕ} → next q (getD least i 0) < bothLimit → RowFrom next least q (i + 1) word → RowFrom next least q i (word * cellValues + next q (getD least i 0))
 
-abbrev pub CellRows : (ℕ → ℕ → ℕ) → List ℕ → List ℕ → ℕ → Type 0
-CellRows next least rows n = (q i : ℕ) → q < n → i < rowWidth → RowCell next least rows q i
+pub record CellRows (next : ℕ → ℕ → ℕ) (least rows : List ℕ) (n : ℕ) : Type 0 where
+  pub long : n ≤ length rows
+  pub row : (q : ℕ) → q < n → RowFrom next least q 0 (getD rows q 0)

@@ -1,36 +1,39 @@
 // Whether two states of one part agree: each byte leads them into one part. And the least state that agrees with a given one.
 //
-// Two rooms stand side by side, the states of b after those of a. Only a byte of each kind is tried. Where the first few of them lead is read from rows, one state
-// after the other; where the others do, from the rooms.
+// Two rooms stand side by side, the states of b after those of a. Only a byte of each kind is tried. Where the first few of them lead is read from rows, a word of
+// cells for each state; where the others do, from the rooms.
 ghost use mathlib.Core.Path.{_≡_};
 ghost use Prim.Native.Nat.{_+_, _≤_, _<_};
 ghost use lib.ListN.{length, getD};
 ghost use Rattle.scope.specs.Machines.Room.{statesOf, Sound};
+ghost use Rattle.scope.specs.Operations.Buffers.{TailKept};
 ghost use Rattle.buffers.specs.Stored.{Decides};
 ghost use Rattle.two_rooms.specs.Side.{bothLimit, both};
 ghost use Rattle.two_rooms.specs.Kinds.{EachKind};
 ghost use Rattle.parting.specs.Named.{LeastLike, OnePart, Agree, Led};
-ghost use Rattle.parting.specs.CellRows.{rowWidth, rowCells, CellRows};
+ghost use Rattle.parting.specs.CellRows.{rowWidth, CellRows};
 ghost use Rattle.parting.specs.Chain.{Chain};
 
-// How many cells a row has, and the rows of all states.
+// How many cells a row has. It is a word of 64 bits, the first cell the lowest.
 pub const ROW: usize = 4;
 
-pub const ROWS: usize = two_rooms::STATES * ROW;
+// How many values a cell has.
+const CELL: u64 = 1 << (64 / ROW);
 
 // Writes the row of the state q behind those of the states before it.
-pub fn write_row(a: &[u8], b: &[u8], least: &[u8], q: usize, rows: &mut [u16; ROWS])
+pub fn write_row(a: &[u8], b: &[u8], least: &[u8], q: usize, rows: &mut [u64])
     requires { ⌜ Sound (now a) × Sound (now b) ⌝ }
     requires { ⌜ (q < statesOf (now a) + statesOf (now b)) × (rowWidth ≤ length (now least)) ⌝ }
-    requires { ⌜ (length (now rows) ≡ rowCells) × CellRows ((both (now a) (now b)) .next) (now least) (now rows) q ⌝ }
-    ensures { λ _. ⌜ (length (now (rows .exit)) ≡ rowCells) × CellRows ((both (now (a .entry)) (now (b .entry))) .next) (now (least .entry)) (now (rows .exit)) (q + 1) ⌝ }
+    requires { ⌜ (bothLimit ≤ length (now rows)) × CellRows ((both (now a) (now b)) .next) (now least) (now rows) q ⌝ }
+    ensures { λ _. ⌜ CellRows ((both (now (a .entry)) (now (b .entry))) .next) (now (least .entry)) (now (rows .exit)) (q + 1) × TailKept bothLimit (now (rows .entry)) (now (rows .exit)) ⌝ }
 {
-    let x = q * ROW;
-    let mut i: usize = 0;
-    while i < ROW {
-        rows[x + i] = two_rooms::step(a, b, q, least[i]) as u16;
-        i += 1;
+    let mut row: u64 = 0;
+    let mut i = ROW;
+    while i > 0 {
+        i -= 1;
+        row = row * CELL + two_rooms::step(a, b, q, least[i]) as u64;
     }
+    rows[q] = row;
 }
 
 // Whether the bytes whose cells are in the rows lead p and q into one part. All are tried: a test after each would be foreseen worse than one after all.
@@ -38,23 +41,25 @@ fn agree_rows(
     a: &[u8],
     b: &[u8],
     least: &[u8],
-    rows: &[u16; ROWS],
+    rows: &[u64],
     part: &[u16; two_rooms::STATES],
     p: usize,
     q: usize,
 ) -> bool
     requires { ⌜ CellRows ((both (now a) (now b)) .next) (now least) (now rows) (q + 1) ⌝ }
-    requires { ⌜ (p ≤ q) × (q < bothLimit) ⌝ }
+    requires { ⌜ p ≤ q ⌝ }
     ensures { λ r. ⌜ Decides r (Led ((both (now (a .entry)) (now (b .entry))) .next) (now (least .entry)) (now (part .entry)) p q 0 rowWidth) ⌝ }
 {
-    let x = p * ROW;
-    let y = q * ROW;
+    let mut x = rows[p];
+    let mut y = rows[q];
     let mut same = true;
     let mut i: usize = 0;
     while i < ROW {
-        if part[rows[x + i] as usize] != part[rows[y + i] as usize] {
+        if part[(x % CELL) as usize] != part[(y % CELL) as usize] {
             same = false;
         }
+        x = x / CELL;
+        y = y / CELL;
         i += 1;
     }
     same
@@ -91,7 +96,7 @@ fn agree(
     a: &[u8],
     b: &[u8],
     least: &[u8],
-    rows: &[u16; ROWS],
+    rows: &[u64],
     part: &[u16; two_rooms::STATES],
     p: usize,
     q: usize,
@@ -110,7 +115,7 @@ pub fn walk(
     a: &[u8],
     b: &[u8],
     least: &[u8],
-    rows: &[u16; ROWS],
+    rows: &[u64],
     part: &[u16; two_rooms::STATES],
     link: &[u16; two_rooms::STATES],
     q: usize,

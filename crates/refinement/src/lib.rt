@@ -9,7 +9,7 @@ ghost use Prim.Native.Nat.{_≤_};
 ghost use lib.ListN.{length, getD, replicate};
 ghost use Rattle.scope.specs.Limits.{byteValues};
 ghost use Rattle.scope.specs.Machines.Room.{Sound};
-ghost use Rattle.scope.specs.Operations.Buffers.{Written};
+ghost use Rattle.scope.specs.Operations.Buffers.{Written, TailKept};
 ghost use Rattle.two_rooms.specs.Side.{bothLimit, side, FirstStates};
 ghost use Rattle.two_rooms.specs.Kinds.{Kinds};
 ghost use Rattle.parting.specs.CellRows.{rowWidth};
@@ -44,7 +44,7 @@ fn tried(count: usize) -> usize
 }
 
 // Refines the first n states until nothing splits, over the least bytes of the `count` kinds; the number of rounds. In `part`, `parent` and `born`, which are 0 before,
-// are then the part of each state, and for each part its parent and the round it was born in.
+// are then the part of each state, and for each part its parent and the round it was born in. The rows lie in words that are lent, one for each state.
 pub fn refine(
     a: &[u8],
     b: &[u8],
@@ -54,17 +54,19 @@ pub fn refine(
     part: &mut [u16; STATES],
     parent: &mut [u16; STATES],
     born: &mut [u16; STATES],
+    rows: &mut [u64],
 ) -> usize
     requires { ⌜ FirstStates (now a) (now b) n ⌝ }
     requires { ⌜ Kinds (now a) (now b) (now least) count ⌝ }
     requires { ⌜ (now part ≡ replicate bothLimit 0) × (now parent ≡ replicate bothLimit 0) × (now born ≡ replicate bothLimit 0) ⌝ }
+    requires { ⌜ bothLimit ≤ length (now rows) ⌝ }
     ensures { λ r. ⌜ Refined (side (now (a .entry)) (now (b .entry)) n) (now (part .exit)) (now (parent .exit)) (now (born .exit)) r ⌝ }
     ensures { λ r. ⌜ (length (now (part .exit)) ≡ bothLimit) × (length (now (parent .exit)) ≡ bothLimit) × (length (now (born .exit)) ≡ bothLimit) ⌝ }
+    ensures { λ r. ⌜ TailKept bothLimit (now (rows .entry)) (now (rows .exit)) ⌝ }
 {
-    let mut rows = [0u16; parting::ROWS];
     let mut from = [0u64; STATES];
     let m = tried(count);
-    signs::note_all(a, b, &least[..m], n, &mut rows, &mut from);
+    signs::note_all(a, b, &least[..m], n, rows, &mut from);
     let mut touched = signs::begin(a, b, &from, n, part);
     let mut link = [0u16; STATES];
     let mut next = [0u16; STATES];
@@ -74,7 +76,7 @@ pub fn refine(
         a,
         b,
         &least[..m],
-        &rows,
+        rows,
         &from,
         part,
         &mut touched,
@@ -103,10 +105,12 @@ pub fn refine_alone(
     room: &[u8],
     column: &mut [u8; Machine::BYTES],
     part: &mut [u16; STATES],
+    rows: &mut [u64],
 ) -> Alone
     requires { ⌜ Sound (now room) ⌝ }
-    requires { ⌜ (now column ≡ replicate byteValues 0) × (now part ≡ replicate bothLimit 0) ⌝ }
+    requires { ⌜ (now column ≡ replicate byteValues 0) × (now part ≡ replicate bothLimit 0) × (bothLimit ≤ length (now rows)) ⌝ }
     ensures { λ r. ⌜ RefinedAlone (now (room .entry)) (now (column .exit)) (now (part .exit)) (r .kinds) (r .rounds) ⌝ }
+    ensures { λ r. ⌜ TailKept bothLimit (now (rows .entry)) (now (rows .exit)) ⌝ }
 {
     let machine = room::head(room);
     let bytes = two_rooms::kinds(room, room, machine.classes);
@@ -123,6 +127,7 @@ pub fn refine_alone(
         part,
         &mut parent,
         &mut born,
+        rows,
     );
     Alone {
         kinds: kinds,

@@ -79,7 +79,7 @@ pub fn round(
     a: &[u8],
     b: &[u8],
     least: &[u8],
-    rows: &[u16; parting::ROWS],
+    rows: &[u64],
     from: &[u64; two_rooms::STATES],
     part: &[u16; two_rooms::STATES],
     touched: &mut u64,

@@ -7,9 +7,10 @@ ghost use Prim.Native.Nat.{_+_, _%_, _^_, _≤_, _<_};
 ghost use lib.ListN.{length, replicate};
 ghost use Rattle.scope.specs.Machines.Room.{statesOf, classesOf, Sound};
 ghost use Rattle.scope.specs.Machines.Rounds.{Together};
+ghost use Rattle.scope.specs.Operations.Buffers.{TailKept};
 ghost use Rattle.two_rooms.specs.Side.{bothLimit, both, side, FirstStates};
 ghost use Rattle.parting.specs.Named.{Named};
-ghost use Rattle.parting.specs.CellRows.{rowWidth, rowCells, CellRows};
+ghost use Rattle.parting.specs.CellRows.{rowWidth, CellRows};
 ghost use Rattle.signs.specs.Signs.{signs, Gap, Sources, CellsNoted, Steady};
 
 // How many signs there are: a state has the one that its number leaves.
@@ -72,12 +73,12 @@ pub fn note_all(
     b: &[u8],
     least: &[u8],
     n: usize,
-    rows: &mut [u16; parting::ROWS],
+    rows: &mut [u64],
     from: &mut [u64; two_rooms::STATES],
 )
     requires { ⌜ FirstStates (now a) (now b) n × (rowWidth ≤ length (now least)) ⌝ }
-    requires { ⌜ (length (now rows) ≡ rowCells) × (length (now from) ≡ bothLimit) ⌝ }
-    ensures { λ _. ⌜ CellRows ((both (now (a .entry)) (now (b .entry))) .next) (now (least .entry)) (now (rows .exit)) n ⌝ }
+    requires { ⌜ (bothLimit ≤ length (now rows)) × (length (now from) ≡ bothLimit) ⌝ }
+    ensures { λ _. ⌜ CellRows ((both (now (a .entry)) (now (b .entry))) .next) (now (least .entry)) (now (rows .exit)) n × TailKept bothLimit (now (rows .entry)) (now (rows .exit)) ⌝ }
     ensures { λ _. ⌜ Sources ((both (now (a .entry)) (now (b .entry))) .next) n (now (from .exit)) ⌝ }
 {
     let s = room::head(a).states;

@@ -20,19 +20,19 @@ abbrev μ-loop : tie.MeasureT-loop
 μ-loop a b least rows from part touched link₀ next₀ parent₀ born₀ n r opened₀ stirred₀ seen₀ q₀ link next parent born opened stirred seen q = n - q
 
 -- there are not more states than two rooms have
-few : (c : tie.After-row-known Inv-loop μ-loop) → c .before .before .before .before .args .n ≤ bothLimit
-few c = let d = c .before .before .before .before .pre .0 in omega (arith, d .few, d .left .few-states, d .right .few-states)
+few : (c : tie.After-row-known Inv-loop μ-loop) → c .before .before .before .before .before .args .n ≤ bothLimit
+few c = let d = c .before .before .before .before .before .pre .0 in omega (arith, d .few, d .left .few-states, d .right .few-states)
 
 -- the state q is one of them, and the name of its part smaller
-low : (c : tie.In-loop Inv-loop μ-loop) → (c .before .loop .q < bothLimit) × (getD (c .before .before .before .before .before .before .before .before .args .part .now) (c .before .loop .q) 0 < c .before .loop .q)
+low : (c : tie.In-loop Inv-loop μ-loop) → (c .before .loop .q < bothLimit) × (getD (c .before .before .before .before .before .before .before .before .before .args .part .now) (c .before .loop .q) 0 < c .before .loop .q)
 low c = (omega (arith, c .loop-test .taken, few (c .before .before .before .before)), c .before .loop .inv .1 (c .loop-test .taken))
 
 looked-requires : tie.Need-looked-requires Inv-loop μ-loop
-looked-requires c κs = ((omega arith, few (c .before)), (c .before .before .before .before .before .pre .1 .1 .1 .0, seen-none _ _))
+looked-requires c κs = ((omega arith, few (c .before)), (c .before .before .before .before .before .before .pre .1 .1 .1 .0, seen-none _ _))
 
 loop-holds : tie.Need-loop-holds Inv-loop μ-loop
-loop-holds c = let a = c .before .before .before .before .before .before .args in
-    let d = c .before .before .before .before .before .before .pre .1 .1 .1 in
+loop-holds c = let a = c .before .before .before .before .before .before .before .args in
+    let d = c .before .before .before .before .before .before .before .pre .1 .1 .1 in
     let ((l, h, g), (s, v)) = c .looked .ensures in (
       h,
       g,
@@ -43,18 +43,18 @@ loop-holds c = let a = c .before .before .before .before .before .before .args i
 
 walk-requires : tie.Need-walk-requires Inv-loop μ-loop
 walk-requires c κs =
-    let d = c .before .before .before .before .before .before .before .before .before .before .pre in
+    let d = c .before .before .before .before .before .before .before .before .before .before .before .pre in
     let l = c .before .before .before .loop in
     let h = c .before .before .loop-test .taken in
-    ((d .0 .left, d .0 .right), (d .1 .0, ((λ q i k. d .1 .1 .0 q i (omega (arith, h, k))), ((omega (arith, h, d .0 .few), d .1 .1 .1 .0 (l .q) h, l .inv .1 h), l .inv .3 .passed .chain))))
+    ((d .0 .left, d .0 .right), (d .1 .0, (record { long = omega (arith, h, d .1 .1 .0 .long); row = λ q k. d .1 .1 .0 .row q (omega (arith, h, k)) }, ((omega (arith, h, d .0 .few), d .1 .1 .1 .0 (l .q) h, l .inv .1 h), l .inv .3 .passed .chain))))
 
 shift-requires : tie.Need-shift-requires Inv-loop μ-loop
 shift-requires c κs = let z = low (c .before .before .before .before .before .before .before .before .before) in (z .0, omega (arith, z), omega (arith, z, c .before .before .before .before .before .before .walk .ensures .low))
 
 -- the state q is done
-come : (c : tie.Joined1 Inv-loop μ-loop) → let a = c .before .before .before .before .before .before .before .before .before .before .before .before .args in let i = c .if1 in
+come : (c : tie.Joined1 Inv-loop μ-loop) → let a = c .before .before .before .before .before .before .before .before .before .before .before .before .before .args in let i = c .if1 in
     Come ((both (a .a .now) (a .b .now)) .next) (a .part .now) (a .next .now) (i .next) (i .link) (a .parent .now) (i .parent) (a .born .now) (i .born) (a .from .now) (a .r) (i .opened) (i .stirred) (c .before .before .before .before .before .loop .q + 1)
-come c = let d = c .before .before .before .before .before .before .before .before .before .before .before .before .pre .1 .1 .1 in
+come c = let d = c .before .before .before .before .before .before .before .before .before .before .before .before .before .pre .1 .1 .1 in
     let g = d .1 .0 in
     let l = c .before .before .before .before .before .loop in
     let v = l .inv .3 in
@@ -79,15 +79,15 @@ come c = let d = c .before .before .before .before .before .before .before .befo
     (c .if1 .came)
 
 looked-requires-2 : tie.Need-looked-requires-2 Inv-loop μ-loop
-looked-requires-2 c κs = ((omega (arith, c .before .before .before .before .before .before .loop-test .taken), few (c .before .before .before .before .before .before .before .before .before .before)), (c .before .before .before .before .before .before .before .before .before .before .before .before .before .before .pre .1 .1 .1 .0, seen-past (c .before .before .before .before .before .before .before .loop .inv .2) (low (c .before .before .before .before .before .before) .1)))
+looked-requires-2 c κs = ((omega (arith, c .before .before .before .before .before .before .loop-test .taken), few (c .before .before .before .before .before .before .before .before .before .before)), (c .before .before .before .before .before .before .before .before .before .before .before .before .before .before .before .pre .1 .1 .1 .0, seen-past (c .before .before .before .before .before .before .before .loop .inv .2) (low (c .before .before .before .before .before .before) .1)))
 
 loop-again : tie.Need-loop-again Inv-loop μ-loop
-loop-again c = let d = c .before .before .before .before .before .before .before .before .before .before .before .before .before .before .before .pre .1 .1 .1 in
+loop-again c = let d = c .before .before .before .before .before .before .before .before .before .before .before .before .before .before .before .before .pre .1 .1 .1 in
     let ((l, h, g), (s, v)) = c .looked2 .ensures in
     (h, g, s, come-gap (few (c .before .before .before .before .before .before .before .before .before .before .before)) (d .1 .0 .0) (d .0) (d .1 .1 .0) (d .1 .1 .1 .0) l h v (come (c .before .before .before)))
 
 returns : tie.Need-returns Inv-loop μ-loop
-returns c = let e : c .before .loop .q ≡ c .before .before .before .before .before .before .before .before .args .n = omega (arith, c .loop-test .left, c .before .loop .inv .0) in
+returns c = let e : c .before .loop .q ≡ c .before .before .before .before .before .before .before .before .before .args .n = omega (arith, c .loop-test .left, c .before .loop .inv .0) in
     let v = rw e at (c .before .loop .inv .3) in
     (v .passed .named, (v .passed .births, (v .stayed, (v .passed .some, (v .passed .link-long, v .passed .zero)))))
 
