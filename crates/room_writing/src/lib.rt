@@ -48,12 +48,12 @@ fn write_row(
 }
 
 // Writes the cells, row by row.
-fn write_cells(
+fn write_cells<'a>(
     from: &[u8],
-    order: &[u8; Machine::STATES],
-    into: &[u8; Machine::STATES],
+    order: &'a [u8; Machine::STATES],
+    into: &'a [u8; Machine::STATES],
     n: usize,
-    leader: &[u8; Machine::BYTES],
+    leader: &'a [u8; Machine::BYTES],
     k: usize,
     to: &mut [u8],
 )
@@ -78,10 +78,6 @@ pub fn write(from: &[u8], plan: Plan, to: &mut [u8])
 {
     let n = plan.states;
     let k = plan.classes;
-    let order = plan.order;
-    let into = plan.into;
-    let class = plan.class;
-    let leader = plan.leader;
     room::write_head(
         to,
         Machine {
@@ -89,9 +85,9 @@ pub fn write(from: &[u8], plan: Plan, to: &mut [u8])
             classes: k,
         },
     );
-    buffers::write_classes(to, &class);
-    write_marks(from, &order, n, to);
+    buffers::write_classes(to, &plan.class);
+    write_marks(from, &plan.order, n, to);
     buffers::fill(to, Machine::MARKS_AT + n, Machine::CELLS_AT, 0);
-    write_cells(from, &order, &into, n, &leader, k, to);
+    write_cells(from, &plan.order, &plan.into, n, &plan.leader, k, to);
     buffers::fill(to, Machine::CELLS_AT + n * k, Machine::ROOM, 0);
 }

@@ -15,16 +15,17 @@ ghost use Rattle.scope.specs.Machines.Canonical.{Canonical};
 ghost use Rattle.scope.specs.Operations.Buffers.{TailKept};
 ghost use Rattle.scope.specs.Operations.Minimise.{Minimises};
 ghost use Rattle.buffers.specs.Stored.{Decides};
+ghost use Rattle.two_rooms.specs.Side.{bothLimit};
 ghost use Rattle.smallest_plan.specs.Planned.{Planned};
 
-// The smallest machine of a sound room.
-fn make_plan(from: &[u8]) -> Plan
-    requires { ⌜ Sound (now from) ⌝ }
-    ensures { λ r. ⌜ Planned (now (from .entry)) r ⌝ }
+// The smallest machine of a sound room. The words are used up.
+fn make_plan(from: &[u8], words: &mut [u64]) -> Plan
+    requires { ⌜ Sound (now from) × (bothLimit ≤ length (now words)) ⌝ }
+    ensures { λ r. ⌜ Planned (now (from .entry)) r × TailKept bothLimit (now (words .entry)) (now (words .exit)) ⌝ }
 {
     let mut column = [0u8; Machine::BYTES];
     let mut part = [0u16; refinement::STATES];
-    let kinds = refinement::refine_alone(from, &mut column, &mut part).kinds;
+    let kinds = refinement::refine_alone(from, &mut column, &mut part, words).kinds;
     let states = arrivals::arrivals(from, &part, &column, kinds);
     let order = states.order;
     let into = states.into;
@@ -44,20 +45,21 @@ fn make_plan(from: &[u8]) -> Plan
 }
 
 // Writes the canonical room of the strings of a sound room.
-pub fn smallest(from: &[u8], to: &mut [u8])
+pub fn smallest(from: &[u8], to: &mut [u8], words: &mut [u64])
     requires { ⌜ Sound (now from) ⌝ }
-    requires { ⌜ roomBytes ≤ length (now to) ⌝ }
+    requires { ⌜ (roomBytes ≤ length (now to)) × (bothLimit ≤ length (now words)) ⌝ }
     ensures { λ _. ⌜ Canonical (now (to .exit)) × Equal (machine (now (from .entry))) (machine (now (to .exit))) × TailKept roomBytes (now (to .entry)) (now (to .exit)) ⌝ }
+    ensures { λ _. ⌜ TailKept bothLimit (now (words .entry)) (now (words .exit)) ⌝ }
 {
-    room_writing::write(from, make_plan(from), to);
+    room_writing::write(from, make_plan(from, words), to);
 }
 
 // Whether a sound room is canonical.
-pub fn is_canonical(room: &[u8]) -> bool
-    requires { ⌜ Sound (now room) ⌝ }
-    ensures { λ r. ⌜ Decides r (Canonical (now (room .entry))) ⌝ }
+pub fn is_canonical(room: &[u8], words: &mut [u64]) -> bool
+    requires { ⌜ Sound (now room) × (bothLimit ≤ length (now words)) ⌝ }
+    ensures { λ r. ⌜ Decides r (Canonical (now (room .entry))) × TailKept bothLimit (now (words .entry)) (now (words .exit)) ⌝ }
 {
-    stay::stays(room, make_plan(room))
+    stay::stays(room, make_plan(room, words))
 }
 
 // Minimising: reads one room, and writes into another the canonical machine of the same strings.
@@ -70,10 +72,11 @@ pub fn minimise(from: &[u8], to: &mut [u8], bytes: &mut [u8], words: &mut [u64])
     if !buffers::is_lent(to, bytes, words) {
         return Minimised::Room;
     }
-    buffers::clear(bytes, words);
     if !room::is_sound(from) {
+        buffers::clear(bytes, words);
         return Minimised::Form;
     }
-    smallest(from, to);
+    smallest(from, to, words);
+    buffers::clear(bytes, words);
     Minimised::Done
 }

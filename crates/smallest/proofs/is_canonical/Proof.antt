@@ -8,10 +8,10 @@ make-plan-requires : tie.Need-make-plan-requires
 make-plan-requires c κs = search needs
 
 stays-requires : tie.Need-stays-requires
-stays-requires c κs = c .make-plan .ensures
+stays-requires c κs = c .before .before .make-plan .ensures .0
 
 returns : tie.Need-returns
-returns c = stays-decides (c .before .make-plan .ensures) (c .stays .ensures)
+returns c = let m = c .before .before .before .make-plan .ensures in (stays-decides (m .0) (c .stays .ensures), m .1)
 
 pub is-canonical-spec : {M : Type 1} → statement M
-is-canonical-spec = tie.close (tie.spec make-plan-requires stays-requires returns)
+is-canonical-spec = tie.close (tie.spec make-plan-requires stays-requires (λ c. search needs) returns)
