@@ -9,11 +9,13 @@ use scope::Machine;
 ghost use Prim.Native.Nat.{_≤_};
 ghost use lib.ListN.{length};
 ghost use Rattle.answers.specs.Numbers.{comparedNumber, comparedLength, comparedRounds};
+ghost use Rattle.scope.specs.Operations.Buffers.{TailKept};
 ghost use Rattle.scope.specs.Operations.Compare.{CompareLent, Compares};
 ghost use Rattle.scope.specs.Limits.{wordBytes};
 ghost use Rattle.scope.specs.Machines.Room.{machine, Sound};
 ghost use Rattle.scope.specs.Machines.Rounds.{Rounds};
 ghost use Rattle.buffers.specs.Stored.{Decides};
+ghost use Rattle.two_rooms.specs.Side.{bothLimit};
 ghost use Rattle.compare.specs.Twins.{Twins};
 ghost use Rattle.compare.specs.CompareAnswer.{AnswersCompare};
 
@@ -44,23 +46,24 @@ fn are_twins(left: &[u8], right: &[u8]) -> bool
 }
 
 // The rounds of one room's machine alone.
-fn rounds_alone(room: &[u8]) -> usize
-    requires { ⌜ Sound (now room) ⌝ }
-    ensures { λ r. ⌜ Rounds (machine (now (room .entry))) r ⌝ }
+fn rounds_alone(room: &[u8], words: &mut [u64]) -> usize
+    requires { ⌜ Sound (now room) × (bothLimit ≤ length (now words)) ⌝ }
+    ensures { λ r. ⌜ Rounds (machine (now (room .entry))) r × TailKept bothLimit (now (words .entry)) (now (words .exit)) ⌝ }
 {
     let mut column = [0u8; Machine::BYTES];
     let mut part = [0u16; refinement::STATES];
-    refinement::refine_alone(room, &mut column, &mut part).rounds
+    refinement::refine_alone(room, &mut column, &mut part, words).rounds
 }
 
 // The answer for two sound rooms.
-fn answer(left: &[u8], right: &[u8], word: &mut [u8]) -> Compared
+fn answer(left: &[u8], right: &[u8], word: &mut [u8], words: &mut [u64]) -> Compared
     requires { ⌜ Sound (now left) × Sound (now right) ⌝ }
-    requires { ⌜ wordBytes ≤ length (now word) ⌝ }
+    requires { ⌜ (wordBytes ≤ length (now word)) × (bothLimit ≤ length (now words)) ⌝ }
     ensures { λ r. ⌜ AnswersCompare (now (left .entry)) (now (right .entry)) (now (word .entry)) (now (word .exit)) (comparedNumber r) (comparedLength r) (comparedRounds r) ⌝ }
+    ensures { λ _. ⌜ TailKept bothLimit (now (words .entry)) (now (words .exit)) ⌝ }
 {
     if are_twins(left, right) {
-        return Compared::Same(rounds_alone(left));
+        return Compared::Same(rounds_alone(left, words));
     }
     let s = room::head(left).states;
     let n = s + room::head(right).states;
@@ -77,6 +80,7 @@ fn answer(left: &[u8], right: &[u8], word: &mut [u8]) -> Compared
         &mut part,
         &mut parent,
         &mut born,
+        words,
     );
     if part[0] == part[s] {
         return Compared::Same(rounds);
@@ -99,9 +103,11 @@ pub fn compare(
     if !is_lent(left, right, word, bytes, words) {
         return Compared::Room;
     }
-    buffers::clear(bytes, words);
     if !room::is_sound(left) || !room::is_sound(right) {
+        buffers::clear(bytes, words);
         return Compared::Form;
     }
-    answer(left, right, word)
+    let answer = answer(left, right, word, words);
+    buffers::clear(bytes, words);
+    answer
 }

@@ -3,20 +3,25 @@ use answers::Packed;
 use answers::Unpacked;
 use scope::Machine;
 ghost use mathlib.Core.Path.{_≡_};
+ghost use Prim.Native.Nat.{_≤_};
+ghost use lib.ListN.{length};
 ghost use Rattle.answers.specs.Numbers.{packedNumber, packedLength, unpackedNumber};
+ghost use Rattle.scope.specs.Limits.{scratchWords};
 ghost use Rattle.scope.specs.Machines.Canonical.{Canonical};
+ghost use Rattle.scope.specs.Operations.Buffers.{TailKept};
 ghost use Rattle.scope.specs.Operations.Pack.{Packs};
 ghost use Rattle.scope.specs.Operations.Unpack.{Unpacks};
 ghost use Rattle.buffers.specs.Stored.{Decides};
 
 // Whether a room is canonical.
-fn is_canonical(room: &[u8]) -> bool
-    ensures { λ r. ⌜ Decides r (Canonical (now (room .entry))) ⌝ }
+fn is_canonical(room: &[u8], words: &mut [u64]) -> bool
+    requires { ⌜ scratchWords ≤ length (now words) ⌝ }
+    ensures { λ r. ⌜ Decides r (Canonical (now (room .entry))) × TailKept scratchWords (now (words .entry)) (now (words .exit)) ⌝ }
 {
     if !room::is_sound(room) {
         return false;
     }
-    smallest::is_canonical(room)
+    smallest::is_canonical(room, words)
 }
 
 // Packing: writes the form of a canonical room to the start of the output, and answers how many bytes it has.
@@ -26,8 +31,9 @@ pub fn pack(room: &[u8], form: &mut [u8], bytes: &mut [u8], words: &mut [u64]) -
     if !buffers::is_lent(room, bytes, words) {
         return Packed::Room;
     }
+    let canonical = is_canonical(room, words);
     buffers::clear(bytes, words);
-    if !is_canonical(room) {
+    if !canonical {
         return Packed::Form;
     }
     if form.len() < packed_bits::form_length(room) {
@@ -47,7 +53,7 @@ pub fn unpack(form: &[u8], room: &mut [u8], bytes: &mut [u8], words: &mut [u64])
         buffers::clear(bytes, words);
         return Unpacked::Form;
     }
-    if !is_canonical(bytes) {
+    if !is_canonical(bytes, words) {
         buffers::clear(bytes, words);
         return Unpacked::Form;
     }
