@@ -3,7 +3,7 @@
 --   reads: the sets of the text's tree are what building is given
 --   outcome: what building answered, of the tree of the text
 --   image: the image that it made, lent on
---   answered: what building leaves in the scratch is within it
+--   answered: what building, and what comes after it, leaves in the scratch is within it
 --   recognised: a canonical machine of the image's strings has the words of the tree
 --   refused, told: a refusal touches nothing; what the judge's answer means for compiling
 use Prim.Native.Nat.{ℕ, zero, suc, _-_, _≤_}
@@ -84,14 +84,14 @@ pub image :
     → Builds b₁ w₁ (r .size) (setValue (r .last .words)) (r .null) b₂ w₂ a → a ≡ Built.Done → MadeRoom (expr (p .tree)) (take (length b₂ - imageAt) (drop imageAt b₂))
 image {b₂ = b₂} p x y z = subst (MadeRoom (expr (p .tree))) (sym (part-all imageAt b₂)) (outcome p x y z)
 
--- what building leaves in the scratch is within it
+-- what building, and what comes after it, leaves in the scratch is within it
 pub answered :
-    {s room room′ b b₁ b₂ w w₁ w₂ : List ℕ} {r : Shape} {count last number place : ℕ} {null : Bool} {a : Built} → ReadsText s b b₁ w w₁ r
-    → Builds b₁ w₁ count last null b₂ w₂ a → ((b′ w′ : List ℕ) → Cleared b b′ w w′ → Compiles s room room′ b b′ w w′ number place)
-    → AnswersCompile s room room′ b b₂ w w₂ number place
-answered x y z = record {
+    {s room room′ b b₁ b₂ w w₁ w₂ w₃ : List ℕ} {r : Shape} {count last number place n : ℕ} {null : Bool} {a : Built} → ReadsText s b b₁ w w₁ r
+    → Builds b₁ w₁ count last null b₂ w₂ a → n ≤ scratchWords → TailKept n w₂ w₃ → ((b′ w′ : List ℕ) → Cleared b b′ w w′ → Compiles s room room′ b b′ w w′ number place)
+    → AnswersCompile s room room′ b b₂ w w₃ number place
+answered x y h k z = record {
   bytes-kept = tail-then (tail-within (omega arith) (x .bytes-kept)) (tail-within (omega arith) (y .bytes-kept));
-  words-kept = tail-then (tail-within (omega arith) (x .words-kept)) (tail-within (omega arith) (y .words-kept));
+  words-kept = tail-then (tail-then (tail-within (omega arith) (x .words-kept)) (tail-within (omega arith) (y .words-kept))) (tail-within h k);
   cleared = z;
 }
 

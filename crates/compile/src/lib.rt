@@ -31,7 +31,7 @@ fn build(text: &[u8], room: &mut [u8], bytes: &mut [u8], words: &mut [u64]) -> C
     let built = determinise::build(bytes, words, shape.size, last, shape.null);
     match built {
         Built::Done => {
-            smallest::smallest(&bytes[layout::IMAGE_AT..], room);
+            smallest::smallest(&bytes[layout::IMAGE_AT..], room, words);
             Compiled::Done
         }
         Built::Classes => Compiled::Classes,
