@@ -1,5 +1,5 @@
 -- Whether the cells before i lie in one part; those from i on are left of the rows.
-use Prim.Native.Nat.{ℕ, _-_, _≤_}
+use Prim.Native.Nat.{ℕ, _-_, _%_, _≤_, _<_}
 use mathlib.Core.Path.{_≡_}
 use mathlib.Core.Logic.{⊎-elim}
 use native.Mathlib.Omega.{arith}
@@ -7,9 +7,9 @@ use borrow.Author.Needs.{needs}
 use lib.ListN.{getD}
 use Rattle.buffers.specs.Stored.{Decides}
 use Rattle.buffers.proofs.OneMore.{holds, each-more, each-not}
-use Rattle.two_rooms.specs.Side.{both}
+use Rattle.two_rooms.specs.Side.{bothLimit, both}
 use Rattle.parting.specs.Named.{OnePart, Led}
-use Rattle.parting.specs.CellRows.{rowWidth, RowFrom}
+use Rattle.parting.specs.CellRows.{rowWidth, cellValues, RowFrom}
 use Rattle.parting.proofs.Cells.{cell-first, cell-rest}
 use Rattle.parting.proofs.agree_rows.Statement.{statement}
 use Rattle.parting.proofs.agree_rows.Tie as tie
@@ -21,14 +21,18 @@ Inv-loop a b least rows part p q x₀ y₀ same₀ i₀ x y same i =
 abbrev μ-loop : tie.MeasureT-loop
 μ-loop a b least rows part p q x₀ y₀ same₀ i₀ x y same i = rowWidth - i
 
+-- the next cell of both is a state
+states : (c : tie.In-loop Inv-loop μ-loop) → (c .before .loop .x % cellValues < bothLimit) × (c .before .loop .y % cellValues < bothLimit)
+states c = let v = c .before .loop .inv in (cell-first (v .1) (c .loop-test .taken) .1, cell-first (v .2) (c .loop-test .taken) .1)
+
 loop-holds : tie.Need-loop-holds Inv-loop μ-loop
 loop-holds c = let d = c .before .before .pre in (search needs, d .0 .row _ (omega (arith, d .1)), d .0 .row _ (omega arith), holds (λ i h l. absurd (omega arith)))
 
 element-copy-out-if1 : tie.Need-element-copy-out-if1 Inv-loop μ-loop
-element-copy-out-if1 c = cell-first (c .before .loop .inv .1) (c .loop-test .taken) .1
+element-copy-out-if1 c = omega (arith, states c)
 
 element-copy-out-if1-2 : tie.Need-element-copy-out-if1-2 Inv-loop μ-loop
-element-copy-out-if1-2 c = cell-first (c .before .before .loop .inv .2) (c .before .loop-test .taken) .1
+element-copy-out-if1-2 c = omega (arith, states (c .before))
 
 loop-again : tie.Need-loop-again Inv-loop μ-loop
 loop-again c = let k = c .before .before .before in
