@@ -152,10 +152,10 @@ module _ {a part column order number : List ℕ} {kinds count q i : ℕ} (s : So
           record { place = b .place; row = b .row; here = as-read (b .place) (omega arith) ∙ b .here ∙ sym (kept v l) }
 
 -- nothing is read, and the part of the state 0 has the number 0
-pub swept-none : (a part column : List ℕ) (kinds : ℕ) → Sound a → PartsOf (machine a) part
-    → PlacesSwept a part column (set (replicate stateLimit 0) 0 (getD part 0 0)) (set (replicate stateLimit stateLimit) (getD part 0 0) 0) kinds 1 (0 * kinds)
-swept-none a part column kinds s f = record {
-  order-size = length-set (replicate stateLimit 0) 0 p ∙ length-replicate {A = ℕ} stateLimit 0;
+pub swept-none : (a part column order : List ℕ) (kinds : ℕ) → Sound a → PartsOf (machine a) part → length order ≡ stateLimit
+    → PlacesSwept a part column (set order 0 (getD part 0 0)) (set (replicate stateLimit stateLimit) (getD part 0 0) 0) kinds 1 (0 * kinds)
+swept-none a part column order kinds s f e = record {
+  order-size = length-set order 0 p ∙ e;
   number-size = length-set (replicate stateLimit stateLimit) p 0 ∙ size;
   start = at;
   back = λ v l. let z : v ≡ 0 = omega arith in rw z (record { inside = rw at inside; name = rw at (f .name 0 (s .some-state)); own = rw at new });
@@ -176,8 +176,8 @@ swept-none a part column kinds s f = record {
     size : length {A = ℕ} (replicate stateLimit stateLimit) ≡ stateLimit
     size = length-replicate {A = ℕ} stateLimit stateLimit
 
-    at : getD (set (replicate stateLimit 0) 0 p) 0 0 ≡ p
-    at = getD-set-same (replicate stateLimit 0) 0 p 0 (omega (arith, length-replicate {A = ℕ} stateLimit 0))
+    at : getD (set order 0 p) 0 0 ≡ p
+    at = getD-set-same order 0 p 0 (omega (arith, e))
 
     new : _≡_ {A = ℕ} (getD (set (replicate stateLimit stateLimit) p 0) p 0) 0
     new = getD-set-same (replicate stateLimit stateLimit) p 0 0 (omega (arith, inside, s .few-states, size))
@@ -259,8 +259,8 @@ module _ {a part column order number : List ℕ} {kinds count q i row : ℕ} (d 
 -- ---- the numbers of the states
 
 -- of no state
-pub numbers-none : (part number : List ℕ) (count : ℕ) → Numbers part number (replicate stateLimit 0) 0 count
-numbers-none part number count = record { size = length-replicate {A = ℕ} stateLimit 0; inside = λ t h. absurd (omega arith) }
+pub numbers-none : (part number into : List ℕ) (count : ℕ) → length into ≡ stateLimit → Numbers part number into 0 count
+numbers-none part number into count e = record { size = e; inside = λ t h. absurd (omega arith) }
 
 module _ {part number into : List ℕ} {t count : ℕ} (n : Numbers part number into t count) where
   -- of one more, whose part has none

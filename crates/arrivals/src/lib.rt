@@ -1,7 +1,9 @@
 // The states: the parts of a room's states, numbered on first arrival, row by row, over the least byte of each kind. A byte of a kind leads where its least byte
 // leads, and that one is read before it, so no other byte can bring a new state.
 use scope::Machine;
+ghost use mathlib.Core.Path.{_≡_};
 ghost use Prim.Native.Nat.{_+_, _*_, _≤_, _<_};
+ghost use lib.ListN.{length};
 ghost use Rattle.scope.specs.Limits.{stateLimit};
 ghost use Rattle.scope.specs.Machines.Room.{Below};
 ghost use Rattle.arrivals.specs.Swept.{Sweepable, PlacesSwept, Numbers, Arrived};
@@ -37,17 +39,18 @@ fn sweep(
     count
 }
 
-// The number of the part of each of the first n states, 0 where it has none. Numbers are below `count`: the mark of a part that has none is never taken for one.
+// Writes the number of the part of each of the first n states that has one. Numbers are below `count`: the mark of a part that has none is never taken for one.
 fn numbers(
     part: &[u16; refinement::STATES],
     number: &[u16; Machine::STATES],
     n: usize,
     count: usize,
-) -> [u8; Machine::STATES]
+    into: &mut [u8; Machine::STATES],
+)
     requires { ⌜ (n ≤ stateLimit) × (count ≤ stateLimit) × Below (now part) 0 n n × Below (now number) 0 n (stateLimit + 1) ⌝ }
-    ensures { λ r. ⌜ Numbers (now (part .entry)) (now (number .entry)) r n count ⌝ }
+    requires { ⌜ length (now into) ≡ stateLimit ⌝ }
+    ensures { λ _. ⌜ Numbers (now (part .entry)) (now (number .entry)) (now (into .exit)) n count ⌝ }
 {
-    let mut into = [0u8; Machine::STATES];
     let mut t: usize = 0;
     while t < n {
         let v = number[part[t] as usize] as usize;
@@ -56,27 +59,22 @@ fn numbers(
         }
         t += 1;
     }
-    into
 }
 
-// The state of a room that each number stands for, the number of each of its states, and how many numbers there are.
-pub struct States {
-    pub order: [u8; Machine::STATES],
-    pub into: [u8; Machine::STATES],
-    pub count: usize,
-}
-
-// Numbers the parts on first arrival.
+// Numbers the parts on first arrival; how many numbers there are. In `order` is then the state of the room that each number stands for, and in `into` the number of each
+// of its states.
 pub fn arrivals(
     from: &[u8],
     part: &[u16; refinement::STATES],
     column: &[u8; Machine::BYTES],
     kinds: usize,
-) -> States
+    order: &mut [u8; Machine::STATES],
+    into: &mut [u8; Machine::STATES],
+) -> usize
     requires { ⌜ Sweepable (now from) (now part) (now column) kinds ⌝ }
-    ensures { λ r. ⌜ Arrived (now (from .entry)) (now (part .entry)) (now (column .entry)) (r .order) (r .into) kinds (r .count) ⌝ }
+    requires { ⌜ (length (now order) ≡ stateLimit) × (length (now into) ≡ stateLimit) ⌝ }
+    ensures { λ r. ⌜ Arrived (now (from .entry)) (now (part .entry)) (now (column .entry)) (now (order .exit)) (now (into .exit)) kinds r ⌝ }
 {
-    let mut order = [0u8; Machine::STATES];
     let mut number = [Machine::STATES as u16; Machine::STATES];
     let p = part[0] as usize;
     order[0] = p as u8;
@@ -84,13 +82,9 @@ pub fn arrivals(
     let mut count: usize = 1;
     let mut q: usize = 0;
     while q < count {
-        count = sweep(from, part, column, kinds, q, &mut order, &mut number, count);
+        count = sweep(from, part, column, kinds, q, order, &mut number, count);
         q += 1;
     }
-    let into = numbers(part, &number, room::head(from).states, count);
-    States {
-        order: order,
-        into: into,
-        count: count,
-    }
+    numbers(part, &number, room::head(from).states, count, into);
+    count
 }

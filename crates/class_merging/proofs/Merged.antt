@@ -8,7 +8,7 @@ use Prim.Native.Nat.{ℕ, _+_, _≤_, _<_}
 use mathlib.Core.Path.{_≡_, refl, sym, _∙_}
 use mathlib.Core.List.{List}
 use native.Mathlib.Omega.{arith}
-use lib.ListN.{getD, set, replicate, length-set, length-replicate}
+use lib.ListN.{length, getD, set, replicate, length-set}
 use lib.Seq.{getD-set-same, getD-set-other}
 use Rattle.scope.specs.Limits.{byteValues, classesAt}
 use Rattle.scope.specs.Machines.Room.{classesOf, classOf, Below, Sound}
@@ -24,9 +24,8 @@ use Rattle.class_merging.specs.Merged.{Distinct, Merged, ColumnMap}
 -- ---- one kind more
 
 -- no kind
-pub merged-none : (a order into column : List ℕ) (n : ℕ) → Merged a order into column (replicate byteValues 0) (replicate byteValues 0) n 0 0
-merged-none a order into column n =
-    record { sort-size = length-replicate {A = ℕ} byteValues 0; leader-size = length-replicate {A = ℕ} byteValues 0; numbered = numbered-none (omega arith) }
+pub merged-none : (a order into column sort leader : List ℕ) (n : ℕ) → length sort ≡ byteValues → length leader ≡ byteValues → Merged a order into column sort leader n 0 0
+merged-none a order into column sort leader n d e = record { sort-size = d; leader-size = e; numbered = numbered-none (omega arith) }
 
 module _ {a order into column sort leader : List ℕ} {n k e to limit : ℕ} (m : Merged a order into column sort leader n k e) (h : e ≤ to) (b : Below column 0 to limit) where
   -- leaders are columns

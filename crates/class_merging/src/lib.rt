@@ -1,8 +1,9 @@
 // The classes: the kinds of bytes whose columns lead each state to the same state. The kinds come in the order of their least bytes, and a kind is compared with the
 // first of each class so far, so the classes are numbered by their smallest byte.
 use scope::Machine;
+ghost use mathlib.Core.Path.{_≡_};
 ghost use Prim.Native.Nat.{_≤_, _<_};
-ghost use lib.ListN.{getD, replicate};
+ghost use lib.ListN.{length, getD, replicate};
 ghost use Rattle.scope.specs.Limits.{byteValues};
 ghost use Rattle.scope.specs.Machines.Room.{classesOf, classOf, Below, Sound};
 ghost use Rattle.scope.specs.Operations.Buffers.{Written};
@@ -63,14 +64,7 @@ fn find(
     k
 }
 
-// The class of each column, the column of each class, and how many classes there are.
-pub struct Classes {
-    pub sort: [u8; Machine::BYTES],
-    pub leader: [u8; Machine::BYTES],
-    pub count: usize,
-}
-
-// Merges the kinds whose columns are alike.
+// Merges the kinds whose columns are alike; how many classes there are. In `sort` is then the class of each column, and in `leader` the column of each class.
 pub fn merge(
     from: &[u8],
     order: &[u8; Machine::STATES],
@@ -78,18 +72,19 @@ pub fn merge(
     n: usize,
     column: &[u8; Machine::BYTES],
     kinds: usize,
-) -> Classes
+    sort: &mut [u8; Machine::BYTES],
+    leader: &mut [u8; Machine::BYTES],
+) -> usize
     requires { ⌜ StatesIn (now from) (now order) n ⌝ }
     requires { ⌜ (kinds ≤ byteValues) × Below (now column) 0 kinds (classesOf (now from)) × Distinct (now column) kinds ⌝ }
-    ensures { λ r. ⌜ Merged (now (from .entry)) (now (order .entry)) (now (into .entry)) (now (column .entry)) (r .sort) (r .leader) n (r .count) kinds ⌝ }
+    requires { ⌜ (length (now sort) ≡ byteValues) × (length (now leader) ≡ byteValues) ⌝ }
+    ensures { λ r. ⌜ Merged (now (from .entry)) (now (order .entry)) (now (into .entry)) (now (column .entry)) (now (sort .exit)) (now (leader .exit)) n r kinds ⌝ }
 {
-    let mut sort = [0u8; Machine::BYTES];
-    let mut leader = [0u8; Machine::BYTES];
     let mut count: usize = 0;
     let mut j: usize = 0;
     while j < kinds {
         let u = column[j];
-        let c = find(from, order, into, n, &leader, count, u);
+        let c = find(from, order, into, n, leader, count, u);
         sort[u as usize] = c as u8;
         if c == count {
             leader[count] = u;
@@ -97,11 +92,7 @@ pub fn merge(
         }
         j += 1;
     }
-    Classes {
-        sort: sort,
-        leader: leader,
-        count: count,
-    }
+    count
 }
 
 // The class of each byte in the room.

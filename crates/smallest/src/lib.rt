@@ -26,19 +26,27 @@ fn make_plan(from: &[u8], words: &mut [u64]) -> Plan
     let mut column = [0u8; Machine::BYTES];
     let mut part = [0u16; refinement::STATES];
     let kinds = refinement::refine_alone(from, &mut column, &mut part, words).kinds;
-    let states = arrivals::arrivals(from, &part, &column, kinds);
-    let order = states.order;
-    let into = states.into;
-    let n = states.count;
-    let classes = class_merging::merge(from, &order, &into, n, &column, kinds);
-    let sort = classes.sort;
-    let leader = classes.leader;
+    let mut order = [0u8; Machine::STATES];
+    let mut into = [0u8; Machine::STATES];
+    let n = arrivals::arrivals(from, &part, &column, kinds, &mut order, &mut into);
+    let mut sort = [0u8; Machine::BYTES];
+    let mut leader = [0u8; Machine::BYTES];
+    let k = class_merging::merge(
+        from,
+        &order,
+        &into,
+        n,
+        &column,
+        kinds,
+        &mut sort,
+        &mut leader,
+    );
     let class = class_merging::of_bytes(from, &sort);
     Plan {
         states: n,
         order: order,
         into: into,
-        classes: classes.count,
+        classes: k,
         class: class,
         leader: leader,
     }

@@ -19,17 +19,17 @@ abbrev μ-loop : tie.MeasureT-loop
 
 -- the part of the state t
 is-part : (c : tie.In-loop Inv-loop μ-loop) → getD (c .before .before .args .part .now) (c .before .loop .t) 0 < stateLimit
-is-part c = let g = c .before .before .pre in omega (arith, g .2 (c .before .loop .t) (c .loop-test .taken) (omega arith), g .0)
+is-part c = let g = c .before .before .pre .0 in omega (arith, g .2 (c .before .loop .t) (c .loop-test .taken) (omega arith), g .0)
 
 loop-holds : tie.Need-loop-holds Inv-loop μ-loop
-loop-holds c = (search needs, numbers-none _ _ _)
+loop-holds c = (search needs, numbers-none _ _ _ _ (c .pre .1))
 
 cast-v : tie.Need-cast-v Inv-loop μ-loop
 cast-v c = omega (arith, is-part (c .before))
 
 cast-v-2 : tie.Need-cast-v-2 Inv-loop μ-loop
 cast-v-2 c =
-    let g = c .before .before .before .before .pre in
+    let g = c .before .before .before .before .pre .0 in
     omega (arith, g .3 _ (g .2 (c .before .before .before .loop .t) (c .before .before .loop-test .taken) (omega arith)) (omega arith))
 
 mul-v-2 : tie.Need-mul-v-2 Inv-loop μ-loop

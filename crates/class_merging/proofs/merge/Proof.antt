@@ -19,22 +19,22 @@ abbrev μ-loop : tie.MeasureT-loop
 
 -- the column of the kind j is a class
 class : (c : tie.In-loop Inv-loop μ-loop) → getD (c .before .before .before .args .column .now) (c .before .loop .j) 0 < byteValues
-class c = omega (arith, c .before .before .before .pre .1 .1 (c .before .loop .j) (c .loop-test .taken) (omega arith), c .before .before .before .pre .0 .sound .few-classes)
+class c = omega (arith, c .before .before .before .pre .1 .0 .1 (c .before .loop .j) (c .loop-test .taken) (omega arith), c .before .before .before .pre .0 .sound .few-classes)
 
 loop-holds : tie.Need-loop-holds Inv-loop μ-loop
-loop-holds c = (search needs, merged-none _ _ _ _ _)
+loop-holds c = let (d, e) = c .before .pre .1 .1 in (search needs, merged-none _ _ _ _ _ _ _ d e)
 
 element-copy-out-u : tie.Need-element-copy-out-u Inv-loop μ-loop
-element-copy-out-u c = omega (arith, c .before .before .before .pre .1 .0, c .loop-test .taken)
+element-copy-out-u c = omega (arith, c .before .before .before .pre .1 .0 .0, c .loop-test .taken)
 
 -- there are no more classes so far than columns
 few : (c : tie.In-loop Inv-loop μ-loop) → c .before .loop .count ≤ classLimit
-few c = let g = c .before .before .before .pre in omega (arith, merged-few (c .before .loop .inv .1) (c .before .loop .inv .0) (g .1 .1), g .0 .sound .few-classes)
+few c = let g = c .before .before .before .pre in omega (arith, merged-few (c .before .loop .inv .1) (c .before .loop .inv .0) (g .1 .0 .1), g .0 .sound .few-classes)
 
 find-requires : tie.Need-find-requires Inv-loop μ-loop
 find-requires c κs =
     let l = c .before .before in let k = l .before in let v = k .loop .inv in
-    let b = k .before .before .pre .1 in
+    let b = k .before .before .pre .1 .0 in
     (k .before .before .pre .0, (omega (arith, few (l)), merged-inside (v .1) (v .0) (b .1), b .1 (k .loop .j) (l .loop-test .taken) (omega arith)))
 
 cast-sort : tie.Need-cast-sort Inv-loop μ-loop
@@ -43,11 +43,11 @@ cast-sort c = omega (arith, c .find .ensures .most, few (c .before .before .befo
 cast-sort-2 : tie.Need-cast-sort-2 Inv-loop μ-loop
 cast-sort-2 c = omega (arith, class (c .before .before .before))
 
-array-write-sort : tie.Need-array-write-sort Inv-loop μ-loop
-array-write-sort c = class (c .before .before .before)
+element-write-sort : tie.Need-element-write-sort Inv-loop μ-loop
+element-write-sort c = class (c .before .before .before)
 
-array-write-leader : tie.Need-array-write-leader Inv-loop μ-loop
-array-write-leader c = omega (arith, few (c .before .before .before .before))
+element-write-leader : tie.Need-element-write-leader Inv-loop μ-loop
+element-write-leader c = omega (arith, few (c .before .before .before .before))
 
 add-count : tie.Need-add-count Inv-loop μ-loop
 add-count c = omega (arith, few (c .before .before .before .before))
@@ -58,7 +58,7 @@ loop-again c =
     let f = c .before .find .ensures in
     let l = t .loop-test .taken in
     let u = class (t) in
-    let d : Distinct (k .before .before .args .column .now) (k .loop .j + 1) = λ i j g. k .before .before .pre .1 .2 i j (omega (arith, g, l)) in (
+    let d : Distinct (k .before .before .args .column .now) (k .loop .j + 1) = λ i j g. k .before .before .pre .1 .0 .2 i j (omega (arith, g, l)) in (
       search needs,
       ⊎-elim (λ w. rw (w .1, w .2) (merged-new u d m f (w .0 .taken) (omega (arith, few (t))))) (λ w. rw (w .1, w .2) (merged-old u d m f (omega (arith, f .most, w .0 .left)))) (c .if1 .came),
     )
@@ -77,8 +77,8 @@ merge-spec =
     find-requires
     cast-sort
     cast-sort-2
-    array-write-sort
-    array-write-leader
+    element-write-sort
+    element-write-leader
     add-count
     (λ c. search needs)
     (λ c. search needs)
