@@ -4,11 +4,11 @@
 --   right-alone, right-empty, right-nothing, right-moved, right-marked, right-beside, right-either: the part of each kind of expression
 --   after-empty, or-nothing: an expression after the empty word, and one joined with no word at all, have its own sets
 use Prim.Native.Nat.{ℕ, _+_, _<_, _≤_}
-use mathlib.Core.Path.{_≡_, refl, sym, ap, ap₂, subst, _∙_}
-use mathlib.Core.Bool.{Bool, true, false, not, _&&_, _||_, and-comm, and-true, and-false, or-false, or-true, or-assoc}
+use mathlib.Core.Path.{_≡_, refl, sym, ap, ap₂, _∙_}
+use mathlib.Core.Bool.{Bool, true, false, _&&_, _||_, and-comm, and-true, or-false, or-true, or-assoc}
 use mathlib.Core.List.{List}
 use mathlib.Core.Logic.{_⊎_, inl, inr}
-use native.Mathlib.Nat.{add-zero, add-assoc}
+use native.Mathlib.Nat.{add-zero}
 use native.Mathlib.Omega.{arith}
 use lib.Bits.{bitOr, or-zero-r, or-comm}
 use Rattle.scope.specs.Bytes.{ByteSet, between}
@@ -28,7 +28,7 @@ use Rattle.spans.proofs.Spans.{between-in, between-out}
 use Rattle.fragments.specs.declared.Fragment.{Fragment}
 use Rattle.fragments.proofs.FollowLinks.{linked-still}
 use Rattle.fragments.specs.Shapes.{Laid, Cut, Alone, Blank, Beside, Either, Moved, WithMark}
-use Rattle.factors.specs.Right.{FollowCame, Right}
+use Rattle.factors.specs.Right.{Right}
 
 -- ---- the positions of an expression
 

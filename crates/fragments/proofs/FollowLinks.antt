@@ -3,15 +3,14 @@
 --   linked-not: a mark that links nothing
 --   linked-still: the sets that are not linked stay as they were
 --   alone-made, beside-made: the part of one position, and of two parts side by side
-use Prim.Native.Nat.{ℕ, _+_, _*_, _^_, _<_, _≤_}
-use mathlib.Core.Path.{_≡_, refl, sym, ap, ap₂, _∙_}
+use Prim.Native.Nat.{ℕ, _+_, _^_, _<_, _≤_}
+use mathlib.Core.Path.{_≡_, sym, ap, ap₂, _∙_}
 use mathlib.Core.Bool.{Bool, true, false, not, _&&_, _||_, and-false, or-false, or-true}
 use mathlib.Core.List.{List}
 use mathlib.Core.Logic.{_⊎_, inl, inr}
 use native.Mathlib.Decide.{ℕ-discrete}
 use native.Mathlib.Omega.{arith}
 use Rattle.scope.specs.Bytes.{between}
-use Rattle.scope.specs.Limits.{setWords}
 use Rattle.scope.specs.Positions.Bits.{has}
 use Rattle.scope.specs.Operations.Buffers.{TailKept}
 use Rattle.scope.proofs.Counting.Tests.{split, equals}

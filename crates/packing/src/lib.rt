@@ -2,7 +2,6 @@
 use answers::Packed;
 use answers::Unpacked;
 use scope::Machine;
-ghost use mathlib.Core.Path.{_≡_};
 ghost use Prim.Native.Nat.{_≤_};
 ghost use lib.ListN.{length};
 ghost use Rattle.answers.specs.Numbers.{packedNumber, packedLength, unpackedNumber};

@@ -2,7 +2,6 @@
 //
 // Two rooms stand side by side, the states of b after those of a. Only a byte of each kind is tried. Where the first few of them lead is read from rows, a word of
 // cells for each state; where the others do, from the rooms.
-ghost use mathlib.Core.Path.{_≡_};
 ghost use Prim.Native.Nat.{_+_, _≤_, _<_};
 ghost use lib.ListN.{length, getD};
 ghost use Rattle.scope.specs.Machines.Room.{statesOf, Sound};

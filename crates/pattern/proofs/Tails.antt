@@ -7,7 +7,7 @@
 --   marks-begun: an atom that was read is a first part of whatever the factor may be
 use Prim.Native.Nat.{ℕ, _+_, _≤_}
 use Prim.Native.Char.{code}
-use mathlib.Core.Path.{_≡_, refl, sym, ap, subst, _∙_}
+use mathlib.Core.Path.{_≡_, refl, sym, ap, subst}
 use mathlib.Core.Bool.{true, false}
 use mathlib.Core.List.{List}
 use mathlib.Core.Logic.{inl, inr}
@@ -17,7 +17,7 @@ use Rattle.scope.specs.Bytes.{byte}
 use Rattle.scope.specs.Text.Grammar.{isMark, markByte, Level, atoms, factors, branches, exprs, Reads, one-atom, one-mark, one-factor, next-factor, one-branch, next-branch}
 use Rattle.scope.specs.Limits.{byteValues, patternLimit, positionLimit}
 use Rattle.scope.specs.Text.Re.{size}
-use Rattle.scope.specs.Text.Tree.{Mark, Tree, marked, beside, either, expr}
+use Rattle.scope.specs.Text.Tree.{Mark, Tree, marked, expr}
 use Rattle.scope.proofs.Counting.Tests.{or, equals, which}
 use Rattle.scope.proofs.Text.Grammar.{other, reads-on}
 use Rattle.scope.proofs.Text.Marks.{mark-other}

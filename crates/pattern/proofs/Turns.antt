@@ -5,8 +5,7 @@
 --   going, going-some, going-small: of what can be read it is a first part; its count
 --   parts-more, parts-found: one more part; the last one
 --   join-factor, join-branch: a factor more, a branch more
-use Prim.Native.Nat.{ℕ, _+_, _<_, _≤_}
-use Prim.Native.Char.{code}
+use Prim.Native.Nat.{ℕ, _<_, _≤_}
 use mathlib.Core.Path.{_≡_, refl, sym, ap, subst, _∙_}
 use mathlib.Core.Bool.{true, false, false≢true}
 use mathlib.Core.List.{List}
@@ -14,15 +13,13 @@ use native.Mathlib.Omega.{arith}
 use lib.ListN.{length}
 use Rattle.scope.specs.Bytes.{byte}
 use Rattle.scope.specs.Text.Grammar.{Level, atoms, factors, branches, exprs}
-use Rattle.scope.specs.Limits.{positionLimit}
-use Rattle.scope.specs.Text.Re.{size}
 use Rattle.scope.specs.Text.Tree.{Tree, expr}
 use Rattle.scope.proofs.Text.Grammar.{other}
 use Rattle.sets.specs.Value.{setBits}
 use Rattle.sets.specs.Layout.{readWords}
 use Rattle.fragments.specs.declared.Fragment.{Fragment}
 use Rattle.fragments.specs.Shapes.{Blank, Beside, Either}
-use Rattle.factors.specs.Tails.{closesExpr, EndsLevel, WholeLevel}
+use Rattle.factors.specs.Tails.{closesExpr, EndsLevel}
 use Rattle.factors.specs.Right.{Right}
 use Rattle.factors.specs.Answer.{Fit, Readable, ReadTree, Answer, WithMarks}
 use Rattle.factors.proofs.Rights.{right-empty, right-nothing, right-beside, right-either, after-empty, or-nothing}

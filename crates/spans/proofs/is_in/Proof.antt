@@ -1,6 +1,4 @@
 -- The position p stands in the word p / 64.
-use mathlib.Core.Path.{sym, ap, _∙_}
-use native.Mathlib.Omega.{arith}
 use borrow.Author.Needs.{needs}
 use Rattle.spans.proofs.Spans.{has-in}
 use Rattle.spans.proofs.is_in.Statement.{statement}

@@ -1,9 +1,10 @@
 -- The invariant: of the set number p the words below w have what the set number i has of the span, too.
 use Prim.Native.Nat.{_+_, _-_, _*_, _≤_}
 use mathlib.Core.Path.{_≡_, refl, sym, ap₂, _∙_}
-use mathlib.Core.Bool.{Bool, true, false, not, _&&_, _||_, or-false, false≢true}
+use mathlib.Core.Bool.{_&&_, _||_, or-false}
 use native.Mathlib.Omega.{arith}
 use borrow.Author.Needs.{needs}
+use borrow.Author.Tests.{not-true, not-false}
 use lib.ListN.{length}
 use Rattle.scope.specs.Bytes.{between}
 use Rattle.scope.specs.Limits.{setWords}
@@ -15,15 +16,6 @@ use Rattle.spans.proofs.Spans.{Becoming, becoming-none, becoming-more, 
 use Rattle.spans.proofs.put.Statement.{statement}
 use Rattle.spans.proofs.put.Tie as tie
 
--- what the test says
-unwanted : (b : Bool) → not b ≡ true → b ≡ false
-unwanted true e = absurd (false≢true e)
-unwanted false e = refl
-
-wanted : (b : Bool) → not b ≡ false → b ≡ true
-wanted true e = refl
-wanted false e = absurd (false≢true (sym e))
-
 abbrev Inv-loop : tie.InvT-loop
 Inv-loop words₀ p wanted i from to at into w₀ words w = (w ≤ setWords) × (at ≡ i * setWords) × (into ≡ p * setWords) × (length words ≡ length words₀) × Becoming words₀ words p w (λ q. has (setAt words₀ p) q || (wanted && (has (setAt words₀ i) q && between (from + 1) to q)))
 
@@ -31,7 +23,7 @@ abbrev μ-loop : tie.MeasureT-loop
 μ-loop words₀ p wanted i from to at into w₀ words w = setWords - w
 
 returns : tie.Need-returns Inv-loop μ-loop
-returns c = is-same _ _ _ (λ q. rw (unwanted (c .before .before .args .wanted) (c .if1 .taken)) (sym (or-false _)))
+returns c = is-same _ _ _ (λ q. rw (not-true (c .before .before .args .wanted) (c .if1 .taken)) (sym (or-false _)))
 
 loop-holds : tie.Need-loop-holds Inv-loop μ-loop
 loop-holds c = (search needs, refl, refl, refl, becoming-none)
@@ -50,7 +42,7 @@ loop-again c =
       becoming-more _ _ d (omega (arith, s .pre .1)) b (λ j h.
           has-or _ _ j
           ∙ ap₂ _||_ (becoming-next _ d (omega arith) b j h) (has-and _ _ j ∙ ap₂ _&&_ (becoming-other _ _ e (s .pre .0) (omega arith) b j h) (c .span .ensures j h))
-          ∙ rw (wanted (s .args .wanted) (l .before .if1 .left)) refl),
+          ∙ rw (not-false (s .args .wanted) (l .before .if1 .left)) refl),
     )
 
 returns-2 : tie.Need-returns-2 Inv-loop μ-loop
