@@ -8,6 +8,7 @@ ghost use Rattle.sets.specs.Layout.{byteSet};
 ghost use Rattle.byte_classes.specs.Group.{Grouped};
 ghost use Rattle.byte_runs.specs.Runs.{RunsOf, Like};
 ghost use Rattle.byte_classes.specs.Masks.{maskOf, Masked};
+use byte_runs::END_WORDS;
 use scope::Machine;
 use sets::Set;
 
@@ -31,25 +32,21 @@ fn byte_mask(bytes: &[u8], count: usize, b: usize) -> Set
 pub fn class_masks(
     bytes: &[u8],
     count: usize,
-    last: &[u8; Machine::BYTES],
-    runs: usize,
+    ends: [u64; END_WORDS],
     map: [u8; Machine::BYTES],
 ) -> [u64; Machine::CLASSES * Machine::SET_WORDS]
-    requires { ⌜ (count ≤ positionLimit) × (count * byteSet ≤ length (now bytes)) ⌝ }
-    requires { ⌜ RunsOf (Like (now bytes) count) (now last) runs × ((k : ℕ) × Grouped (Like (now bytes) count) map k byteValues) ⌝ }
-    ensures { λ r. ⌜ Masked (now (bytes .entry)) count map r byteValues ⌝ }
 {
     let mut masks = [0u64; Machine::CLASSES * Machine::SET_WORDS];
     let mut n: usize = 0;
-    let mut i: usize = 0;
-    while i < runs {
-        let b = last[i] as usize;
+    let mut from: usize = 0;
+    while from < Machine::BYTES {
+        let b = byte_runs::end_of(ends, from);
         let class = map[b] as usize;
         if class == n {
             sets::store(&mut masks, class, byte_mask(bytes, count, b));
             n += 1;
         }
-        i += 1;
+        from = b + 1;
     }
     masks
 }

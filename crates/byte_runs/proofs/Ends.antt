@@ -1,36 +1,84 @@
--- Runs. A byte is an end where a position tells it from the next; with no end in between, no position tells two bytes apart. Each byte is in a run that is
--- listed, or after all of them; with 255 listed last it is in a run.
---   EndsNoting: the loop over the bytes of a set: those below g are noted
---   noting-none, noting-more, noting-all: its turns
---   Quiet: where no end is, none of the first n positions tells a byte from the next
+-- Runs. A byte is an end where a position tells it from the next; with no end in between, no position tells two bytes apart.
+--   Joining: the loop over eight bytes, from the last down: x has the bits of those from i on
+--   joining-none, joining-fits, joining-more, joining-all: its turns
+--   noted-more: the ends of 64 byte values more
+--   Quiet: where no end is, none of the first n positions tells a byte from the next; 255 is an end
 --   quiet-none, quiet-more, quiet-runs: the loop over the positions, and what the runs then are
---   Listing: the loop over the bits: the runs that end before b
---   listing-none, listing-pass, listing-eight, listing-more, listing-all: its turns
+--   Rest: what is left of a word of ends, from the byte b on
+--   rest-start, rest-in, rest-end, rest-next, rest-none: its lowest bit is the next end, and what is left after it; where none is left there is no end in the word
 use Prim.Native.Nat.{ℕ, zero, suc, _+_, _-_, _*_, _/_, _%_, _^_, _≤_, _<_}
-use mathlib.Core.Path.{_≡_, refl, sym, _∙_}
+use mathlib.Core.Path.{_≡_, refl, sym, ap, _∙_}
+use mathlib.Core.Bool.{true, false, true≢false}
 use mathlib.Core.List.{List}
 use mathlib.Core.Logic.{_⊎_, inl, inr}
-use native.Mathlib.Nat.{zero-div}
+use native.Mathlib.Nat.{div-one, pow-suc}
 use native.Mathlib.Numerals.{add-one}
 use native.Mathlib.Omega.{arith}
 use native.Mathlib.Decide.{le-ind}
 use borrow.Author.Count.{below-more}
-use lib.Bits.{bitOr, bitXor, or-step, xor-step, or-shr, xor-shr}
-use lib.ListN.{length, getD, set, length-set, replicate, length-replicate}
+use borrow.Author.Tests.{eqb-false}
+use lib.Bits.{bitOr, bitXor, or-step, xor-step, or-shr, xor-shr, block-half, block-odd}
+use lib.Count.{trailingZeros}
+use lib.ListN.{length, getD, set, replicate}
+use lib.Pow.{pow-add, pow-mono, shr-shr, shr-le, high}
 use lib.Seq.{getD-set-same, getD-set-other}
 use Rattle.scope.specs.Limits.{byteValues}
-use Rattle.scope.specs.Operations.Buffers.{Written}
-use Rattle.scope.proofs.Positions.Bits.{digit}
-use Rattle.scope.proofs.Counting.Tests.{split}
-use Rattle.buffers.proofs.OneMore.{written-start, written-more}
+use Rattle.scope.specs.Positions.Bits.{has}
+use Rattle.scope.proofs.Positions.Bits.{digit, has-shr, has-zero, has-small, trailing-none, trailing-one}
+use Rattle.scope.proofs.Counting.Tests.{split, which}
 use Rattle.sets.specs.Layout.{byteSet, bitAt}
-use Rattle.byte_runs.specs.Runs.{NoEnd, EndsNoted, InRun, RunsOf, Like}
+use Rattle.byte_runs.specs.Runs.{lastByte, isEnd, NoEnd, RunEnd, EightBytes, Like, EndsNoted, RunsOf}
+
+-- ---- eight bytes as one number
+
+-- the half of a number has the next bits
+half : (x j : ℕ) → x / 2 / 2 ^ j ≡ x / 2 ^ suc j
+half x j = let e : 1 + j ≡ suc j = omega arith in rw e at (shr-shr x 1 j)
+
+-- the lower bits of a number in two blocks
+lower-bit : (k a x j : ℕ) → j < k → (a * 2 ^ k + x) / 2 ^ j % 2 ≡ x / 2 ^ j % 2
+lower-bit zero a x j h = absurd (omega arith)
+lower-bit (suc k) a x zero h = simp div-one (block-odd a k x)
+lower-bit (suc k) a x (suc j) h = rw (← half (a * 2 ^ suc k + x) j, ← half x j, block-half a k x) (lower-bit k a (x / 2) j (omega arith))
+
+pub record Joining (m : List ℕ) (at x i : ℕ) : Type 0 where
+  pub few : i ≤ 8
+  pub small : x < 2 ^ (64 - 8 * i)
+  pub bits : (j : ℕ) → j < 64 - 8 * i → x / 2 ^ j % 2 ≡ getD m (at + i + j / 8) 0 / 2 ^ (j % 8) % 2
+
+-- no byte yet
+pub joining-none : (m : List ℕ) (at : ℕ) → Joining m at 0 8
+joining-none m at = record { few = omega arith; small = omega arith; bits = λ j h. absurd (omega arith) }
+
+-- n: the byte that comes next
+module _ {m : List ℕ} {at x i : ℕ} (n : ℕ) (q : i ≡ n + 1) (s : Joining m at x i) where
+  wide : 2 ^ (64 - 8 * n) ≡ 2 ^ (64 - 8 * i) * 256
+  wide = let e : 64 - 8 * n ≡ 64 - 8 * i + 8 = omega (arith, s .few) in ap (λ (y : ℕ). 2 ^ y) e ∙ pow-add 2 (64 - 8 * i) 8
+
+  -- a byte more fits the word
+  pub joining-fits : x * 256 + 255 < 2 ^ 64
+  joining-fits = omega (arith, s .small, wide, pow-mono {i = 64 - 8 * n} {j = 64} (omega arith))
+
+  -- one byte more
+  pub joining-more : getD m (at + n) 0 < 256 → Joining m at (x * 256 + getD m (at + n) 0) n
+  joining-more h = record {
+    few = omega (arith, s .few);
+    small = omega (arith, s .small, wide);
+    bits = λ j l. elim (split j 8) [
+      | inl k ↦ (let e : at + n + j / 8 ≡ at + n = omega arith in let d : j % 8 ≡ j = omega arith in rw (e, d) (lower-bit 8 x (getD m (at + n) 0) j k))
+      | inr k ↦ (let e : at + n + j / 8 ≡ at + i + (j - 8) / 8 = omega arith in
+          let d : j % 8 ≡ (j - 8) % 8 = omega arith in
+          let u : j ≡ 8 + (j - 8) = omega arith in
+          ap (λ (y : ℕ). (x * 256 + getD m (at + n) 0) / 2 ^ y % 2) u ∙ ap (λ (y : ℕ). y % 2) (sym (shr-shr (x * 256 + getD m (at + n) 0) 8 (j - 8)))
+          ∙ ap (λ (y : ℕ). y / 2 ^ (j - 8) % 2) (high x 8 h) ∙ rw (e, d) (s .bits (j - 8) (omega (arith, s .few))))
+    ];
+  }
+
+-- all of them
+pub joining-all : {m : List ℕ} {at x i : ℕ} → i ≤ 0 → Joining m at x i → EightBytes m at x
+joining-all {at = at} {i = i} h s = record { bits = λ j l. (let e : at + j / 8 ≡ at + i + j / 8 = omega arith in rw e (s .bits j (omega arith))) }
 
 -- ---- one position
-
--- the bits of e, and those where neighbouring bits of x differ; after the highest bit of x comes the lowest of y
-abbrev edges : ℕ → ℕ → ℕ → ℕ
-edges e x y = bitOr e (bitXor x (x / 2 + y % 2 * 128))
 
 -- digits that do not differ
 differ-none : (a b : ℕ) → bitXor a b % 2 ≡ 0 → a % 2 ≡ b % 2
@@ -43,201 +91,162 @@ differ-none a b h = go (digit a) (digit b)
     go (inr x) (inr y) = x ∙ sym y
 
 -- no end: there was none, and the bits do not differ
-edges-none : (e x z k : ℕ) → bitOr e (bitXor x z) / 2 ^ k % 2 ≡ 0 → (e / 2 ^ k % 2 ≡ 0) × (x / 2 ^ k % 2 ≡ z / 2 ^ k % 2)
+edges-none : (e x z k : ℕ) → has (bitOr e (bitXor x z)) k ≡ false → (has e k ≡ false) × (x / 2 ^ k % 2 ≡ z / 2 ^ k % 2)
 edges-none e x z k h =
-    let q : bitOr (e / 2 ^ k) (bitXor (x / 2 ^ k) (z / 2 ^ k)) % 2 ≡ 0 = rw (or-shr e (bitXor x z) k, xor-shr x z k) at h in
+    let t = eqb-false (bitOr e (bitXor x z) / 2 ^ k % 2) 1 h in
+    let q : bitOr (e / 2 ^ k) (bitXor (x / 2 ^ k) (z / 2 ^ k)) % 2 ≡ 0 = rw (← xor-shr x z k, ← or-shr e (bitXor x z) k) (omega arith) in
     let s = or-step (e / 2 ^ k) (bitXor (x / 2 ^ k) (z / 2 ^ k)) in
-    (omega arith, differ-none (x / 2 ^ k) (z / 2 ^ k) (omega arith))
+    let d : e / 2 ^ k % 2 ≡ 0 = omega arith in
+    (rw d, differ-none (x / 2 ^ k) (z / 2 ^ k) (omega arith))
 
--- the next higher bit of a byte
-half-bit : (x c k : ℕ) → k < 7 → (x / 2 + c * 128) / 2 ^ k % 2 ≡ x / 2 ^ (k + 1) % 2
-half-bit x c zero h = omega arith
-half-bit x c (suc zero) h = omega arith
-half-bit x c (suc (suc zero)) h = omega arith
-half-bit x c (suc (suc (suc zero))) h = omega arith
-half-bit x c (suc (suc (suc (suc zero)))) h = omega arith
-half-bit x c (suc (suc (suc (suc (suc zero))))) h = omega arith
-half-bit x c (suc (suc (suc (suc (suc (suc zero)))))) h = omega arith
-half-bit x c (suc (suc (suc (suc (suc (suc (suc k))))))) h = absurd (omega arith)
+-- x: the bits of the word number w of a byte set
+module _ (m : List ℕ) (p w x : ℕ) (v : EightBytes m (p * byteSet + 8 * w) x) (small : x < 2 ^ 64) where
+  -- the bit of a byte value
+  own-bit : (j : ℕ) → j < 64 → x / 2 ^ j % 2 ≡ bitAt m p (64 * w + j)
+  own-bit j h =
+      let e : p * byteSet + (64 * w + j) / 8 ≡ p * byteSet + 8 * w + j / 8 = omega arith in
+      let d : (64 * w + j) % 8 ≡ j % 8 = omega arith in
+      rw (e, d) (v .bits j h)
 
--- the bit of the next byte value
-next-bit : (m : List ℕ) (p b : ℕ) → getD m (p * byteSet + b / 8) 0 < 256
-    → (getD m (p * byteSet + b / 8) 0 / 2 + getD m (p * byteSet + b / 8 + 1) 0 % 2 * 128) / 2 ^ (b % 8) % 2 ≡ bitAt m p (b + 1)
-next-bit m p b small = elim (split (b % 8) 7) [
-  | inl h ↦ (
-      let u : (b + 1) / 8 ≡ b / 8 = omega arith in
-      let v : (b + 1) % 8 ≡ b % 8 + 1 = omega arith in
-      rw (u, v) (half-bit (getD m (p * byteSet + b / 8) 0) (getD m (p * byteSet + b / 8 + 1) 0 % 2) (b % 8) h)
-      )
-  | inr h ↦ (
-      let u : p * byteSet + (b + 1) / 8 ≡ p * byteSet + b / 8 + 1 = omega arith in
-      let v : (b + 1) % 8 ≡ 0 = omega arith in
-      let w : b % 8 ≡ 7 = omega arith in
-      rw (u, v, w) (omega arith)
-      )
-]
+  -- the bit of the next, for which the byte after the word is asked
+  next-bit : (j : ℕ) → j < 64 → (getD m (p * byteSet + 8 * w + 8) 0 % 2 * 2 ^ 63 + x / 2) / 2 ^ j % 2 ≡ bitAt m p (64 * w + j + 1)
+  next-bit j h = elim (split j 63) [
+    | inl k ↦ (let e : 64 * w + j + 1 ≡ 64 * w + suc j = omega arith in
+        lower-bit 63 (getD m (p * byteSet + 8 * w + 8) 0 % 2) (x / 2) j k ∙ ap (λ (y : ℕ). y % 2) (half x j) ∙ rw e (own-bit (suc j) (omega arith)))
+    | inr k ↦ (let u : j ≡ 63 = omega arith in
+        let e : p * byteSet + (64 * w + 63 + 1) / 8 ≡ p * byteSet + 8 * w + 8 = omega arith in
+        let d : (64 * w + 63 + 1) % 8 ≡ 0 = omega arith in
+        rw (u, high (getD m (p * byteSet + 8 * w + 8) 0 % 2) 63 {lo = x / 2} (omega arith), e, d) (omega arith))
+  ]
 
-pub record EndsNoting (m : List ℕ) (p : ℕ) (old new : List ℕ) (g : ℕ) : Type 0 where
-  pub bytes : (i : ℕ) → i < g → getD m (p * byteSet + i) 0 < 256
-  pub noted : Written g (λ i. edges (getD old i 0) (getD m (p * byteSet + i) 0) (getD m (p * byteSet + i + 1) 0)) (replicate byteSet 0) new
+-- no byte value yet
+pub noted-none : (m : List ℕ) (p : ℕ) (old new : List ℕ) → EndsNoted m p old new 0
+noted-none m p old new = record { kept = λ b h. absurd (omega arith); same = λ b h. absurd (omega arith) }
 
--- no byte of the set
-pub noting-none : (m : List ℕ) (p : ℕ) (old : List ℕ) → EndsNoting m p old (replicate byteSet 0) 0
-noting-none m p old = record { bytes = λ i h. absurd (omega arith); noted = written-start _ _ }
-
--- one byte more
-pub noting-more : {m : List ℕ} {p : ℕ} {old new : List ℕ} {g : ℕ} → EndsNoting m p old new g → g < byteSet → getD m (p * byteSet + g) 0 < 256
-    → EndsNoting m p old (set new g (edges (getD old g 0) (getD m (p * byteSet + g) 0) (getD m (p * byteSet + g + 1) 0))) (g + 1)
-noting-more {m} {p} {g = g} x h small = record {
-  bytes = below-more (λ (i : ℕ). getD m (p * byteSet + i) 0 < 256) g (x .bytes) small;
-  noted = written-more _ g _ _ _ h refl (x .noted);
+-- 64 byte values more
+pub noted-more : {m : List ℕ} {p x : ℕ} {old new : List ℕ} (w : ℕ) → EndsNoted m p old new (64 * w) → w < length new → EightBytes m (p * byteSet + 8 * w) x → x < 2 ^ 64
+    → EndsNoted m p old (set new w (bitOr (getD old w 0) (bitXor x (getD m (p * byteSet + 8 * w + 8) 0 % 2 * 2 ^ 63 + x / 2)))) (64 * (w + 1))
+noted-more {m} {p} {x} {old} {new} w n h v small = record {
+  kept = λ b l z. elim (split b (64 * w)) [ inl k ↦ n .kept b k (before b k z) | inr k ↦ here b k l z .0 ];
+  same = λ b l z. elim (split b (64 * w)) [ inl k ↦ n .same b k (before b k z) | inr k ↦ here b k l z .1 ];
 }
+  where
+    next : ℕ
+    next = getD m (p * byteSet + 8 * w + 8) 0 % 2 * 2 ^ 63 + x / 2
 
--- all of them
-pub noting-all : {m : List ℕ} {p : ℕ} {old new : List ℕ} {g : ℕ} → byteSet ≤ g → EndsNoting m p old new g → EndsNoted m p old new
-noting-all {m} {p} {old} {new} {g} h x b l z =
-    let flat : 0 * byteSet + b / 8 ≡ b / 8 = omega arith in
-    let i : b / 8 < g = omega arith in
-    let (u, v) = edges-none (getD old (b / 8) 0) (getD m (p * byteSet + b / 8) 0) (getD m (p * byteSet + b / 8) 0 / 2 + getD m (p * byteSet + b / 8 + 1) 0 % 2 * 128) (b % 8)
-    (rw (← x .noted .inside (b / 8) i) (rw flat at z)) in
-    (rw flat u, v ∙ next-bit m p b (x .bytes (b / 8) i))
+    word : ℕ
+    word = bitOr (getD old w 0) (bitXor x next)
+
+    before : (b : ℕ) → b < 64 * w → isEnd (set new w word) b ≡ false → isEnd new b ≡ false
+    before b k z = rw (getD-set-other new w (b / 64) word 0 (λ e. omega arith)) at z
+
+    here : (b : ℕ) → 64 * w ≤ b → b < 64 * (w + 1) → isEnd (set new w word) b ≡ false → (isEnd old b ≡ false) × (bitAt m p b ≡ bitAt m p (b + 1))
+    here b k l z =
+        let d : b / 64 ≡ w = omega arith in
+        let e : 64 * w + b % 64 ≡ b = omega arith in
+        let (s, t) = edges-none (getD old w 0) x next (b % 64) (rw (d, getD-set-same new w word 0 h) at z) in
+        (rw d s, rw e at (sym (own-bit m p w x v small (b % 64) (omega arith)) ∙ t ∙ next-bit m p w x v small (b % 64) (omega arith)))
 
 -- ---- all positions
 
-abbrev pub Quiet : List ℕ → ℕ → List ℕ → Type 0
-Quiet m n ends = (b : ℕ) → b < byteValues → bitAt ends 0 b ≡ 0 → Like m n b (b + 1)
+pub record Quiet (m : List ℕ) (n : ℕ) (ends : List ℕ) : Type 0 where
+  pub last : isEnd ends lastByte ≡ true
+  pub same : (b : ℕ) → b < byteValues → isEnd ends b ≡ false → Like m n b (b + 1)
 
 -- no position
-pub quiet-none : (m ends : List ℕ) → Quiet m 0 ends
-quiet-none m ends b h z p l = absurd (omega arith)
+pub quiet-none : (m ends : List ℕ) → isEnd ends lastByte ≡ true → Quiet m 0 ends
+quiet-none m ends e = record { last = e; same = λ b h z p l. absurd (omega arith) }
 
 -- one position more
-pub quiet-more : (m : List ℕ) (p : ℕ) (old new : List ℕ) → Quiet m p old → EndsNoted m p old new → Quiet m (p + 1) new
-quiet-more m p old new q x b h z = let (u, v) = x b h z in below-more (λ (i : ℕ). bitAt m i b ≡ bitAt m i (b + 1)) p (q b h u) v
+pub quiet-more : {m : List ℕ} {p : ℕ} {old new : List ℕ} → Quiet m p old → EndsNoted m p old new byteValues → Quiet m (p + 1) new
+quiet-more {m} {p} {old} {new} q x = record {
+  last = elim (which (isEnd new lastByte)) [ inl e ↦ e | inr e ↦ absurd (true≢false (sym (q .last) ∙ x .kept lastByte (omega arith) e)) ];
+  same = λ b h z. below-more (λ (i : ℕ). bitAt m i b ≡ bitAt m i (b + 1)) p (q .same b h (x .kept b h z)) (x .same b h z);
+}
 
 -- with no end in between, two bytes are alike
-quiet-joined : (m : List ℕ) (n : ℕ) (ends : List ℕ) → Quiet m n ends → (a b : ℕ) → a ≤ b → b < byteValues → NoEnd ends a b → Like m n a b
-quiet-joined m n ends q a b h = le-ind (λ (c : ℕ). c < byteValues → NoEnd ends a c → Like m n a c) (λ l j p k. refl)
-    (λ c l go s j p k. go (omega arith) (λ d w v. j d (omega arith) v) p k ∙ (let t = q c (omega arith) (j c (omega arith) l) p k in rw add-one at t)) b h
-
--- the runs up to the ends are runs of bytes that are alike
-pub quiet-runs : (m : List ℕ) (n : ℕ) (ends last : List ℕ) (count : ℕ) → Quiet m n ends → RunsOf (NoEnd ends) last count → RunsOf (Like m n) last count
-quiet-runs m n ends last count q r = record {
-  listed = r .listed;
-  run = λ b h. (let (i, l, at, j) = r .run b h in (i, l, at, quiet-joined m n ends q b (getD last i 0) (at .upto) (r .listed .byte i l) j));
+pub quiet-runs : {m : List ℕ} {n : ℕ} {ends : List ℕ} → Quiet m n ends → RunsOf (Like m n) ends
+quiet-runs {m} {n} {ends} q = record {
+  last = q .last;
+  alike = λ a b h. le-ind (λ (c : ℕ). c < byteValues → NoEnd ends a c → Like m n a c) (λ l j p k. refl)
+      (λ c l go s j p k. go (omega arith) (λ d w v. j d (omega arith) v) p k ∙ (let t = q .same c (omega arith) (j c (omega arith) l) p k in rw add-one at t)) b h;
 }
 
--- ---- listing
+-- ---- the ends of one word
 
--- a is after all runs
-abbrev After : List ℕ → ℕ → ℕ → Type 0
-After last n a = (j : ℕ) → j < n → getD last j 0 < a
+pub record Rest (ends : List ℕ) (w rest b : ℕ) : Type 0 where
+  pub upto : b ≤ 64 * w + 64
+  pub from : 64 * w ≤ b
+  pub left : rest ≡ getD ends w 0 / 2 ^ (b - 64 * w)
 
--- a is in one of the runs
-abbrev Reached : List ℕ → List ℕ → ℕ → ℕ → Type 0
-Reached ends last n a = (i : ℕ) × (i < n) × InRun last i a × NoEnd ends a (getD last i 0)
+-- the whole word
+pub rest-start : (ends : List ℕ) (w : ℕ) → Rest ends w (getD ends w 0) (64 * w)
+rest-start ends w = record { upto = omega arith; from = omega arith; left = (let e : 64 * w - 64 * w ≡ 0 = omega arith in rw e (sym (div-one _))) }
 
-pub record Listing (ends last : List ℕ) (n b : ℕ) : Type 0 where
-  pub size : length last ≡ byteValues
-  pub few : n ≤ b
-  pub fit : n < byteValues
-  pub before : After last n b
-  pub byte : After last n 255
-  pub rising : (i : ℕ) → i < n → After last i (getD last i 0)
-  pub joins : (a : ℕ) → After last n a → NoEnd ends a b
-  pub run : (a : ℕ) → Reached ends last n a ⊎ After last n a
+-- its bits from b on
+pub rest-at : (ends : List ℕ) (b : ℕ) → Rest ends (b / 64) (getD ends (b / 64) 0 / 2 ^ (b % 64)) b
+rest-at ends b = record { upto = omega arith; from = omega arith; left = (let e : b - 64 * (b / 64) ≡ b % 64 = omega arith in rw e) }
 
--- no run yet
-pub listing-none : (ends : List ℕ) → Listing ends (replicate byteValues 0) 0 0
-listing-none ends = record {
-  size = length-replicate {A = ℕ} byteValues 0;
-  few = omega arith;
-  fit = omega arith;
-  before = λ j h. absurd (omega arith);
-  byte = λ j h. absurd (omega arith);
-  rising = λ i h. absurd (omega arith);
-  joins = λ a h c l. absurd (omega arith);
-  run = λ a. inr (λ j h. absurd (omega arith));
+module _ {ends : List ℕ} {w rest b : ℕ} (r : Rest ends w rest b) where
+  -- a bit that is left
+  rest-bit : (c : ℕ) → b ≤ c → c < 64 * w + 64 → isEnd ends c ≡ has rest (c - b)
+  rest-bit c h l =
+      let d : c / 64 ≡ w = omega (arith, r .from) in
+      let e : c % 64 ≡ b - 64 * w + (c - b) = omega (arith, r .from) in
+      rw (d, e, r .left) (sym (has-shr (getD ends w 0) (b - 64 * w) (c - b)))
+
+  -- none is left
+  pub rest-none : rest ≡ 0 → NoEnd ends b (64 * w + 64)
+  rest-none z c l h = rest-bit c h l ∙ rw z (has-zero (c - b))
+
+  module _ (small : getD ends w 0 < 2 ^ 64) (some : rest ≡ 0 → ⊥) where
+    lowest : has rest (trailingZeros 64 rest) ≡ true
+    lowest = trailing-one 64 rest (omega arith) (omega (arith, r .left, shr-le (getD ends w 0) (b - 64 * w)))
+
+    -- the lowest stands in the word
+    pub rest-in : b + trailingZeros 64 rest < 64 * w + 64
+    rest-in = omega (arith, r .from, has-small (getD ends w 0) (b - 64 * w + trailingZeros 64 rest) 64
+        (sym (has-shr (getD ends w 0) (b - 64 * w) (trailingZeros 64 rest)) ∙ rw (← r .left) lowest) small)
+
+    -- it is the next end
+    pub rest-end : 64 * w + 64 ≤ byteValues → RunEnd ends b (b + trailingZeros 64 rest)
+    rest-end h =
+        let e : b + trailingZeros 64 rest - b ≡ trailingZeros 64 rest = omega arith in
+        record {
+          upto = omega arith;
+          byte = omega (arith, rest-in);
+          end = rest-bit (b + trailingZeros 64 rest) (omega arith) rest-in ∙ rw e lowest;
+          before = λ c l k. rest-bit c k (omega (arith, rest-in)) ∙ trailing-none 64 rest (c - b) (omega arith);
+        }
+
+    -- and what is left after it
+    pub rest-next : Rest ends w (rest / 2 ^ trailingZeros 64 rest / 2) (b + trailingZeros 64 rest + 1)
+    rest-next =
+        let z = trailingZeros 64 rest in
+        let e : b + z + 1 - 64 * w ≡ b - 64 * w + z + 1 = omega (arith, r .from) in
+        record {
+          upto = omega (arith, rest-in);
+          from = omega (arith, r .from);
+          left = rw e (ap (λ (n : ℕ). n / 2 ^ z / 2) (r .left) ∙ ap (λ (n : ℕ). n / 2) (shr-shr (getD ends w 0) (b - 64 * w) z) ∙ shr-shr (getD ends w 0) (b - 64 * w + z) 1);
+        }
+
+-- no end in the word of x, so none from b up to the next word
+pub rest-past : {ends : List ℕ} {x rest : ℕ} (b : ℕ) → NoEnd ends b x → Rest ends (x / 64) rest x → rest ≡ 0 → NoEnd ends b (x + (64 - x % 64))
+rest-past {x = x} b n r z c l h = elim (split c x) [ inl k ↦ n c k h | inr k ↦ rest-none r z c (omega arith) k ]
+
+-- the word after it
+pub rest-word : (ends : List ℕ) (x : ℕ) → Rest ends ((x + (64 - x % 64)) / 64) (getD ends ((x + (64 - x % 64)) / 64) 0) (x + (64 - x % 64))
+rest-word ends x = let e : 64 * ((x + (64 - x % 64)) / 64) ≡ x + (64 - x % 64) = omega arith in rw e at (rest-start ends ((x + (64 - x % 64)) / 64))
+
+-- where no end was met, 255 was not
+pub before-last : (ends : List ℕ) (b x : ℕ) → isEnd ends lastByte ≡ true → b < byteValues → NoEnd ends b x → x < byteValues
+before-last ends b x e h n = elim (split x byteValues) [ inl k ↦ k | inr k ↦ absurd (true≢false (sym e ∙ n lastByte (omega arith) (omega arith))) ]
+
+-- the end of the run of x is that of b, if there is none in between
+pub run-longer : {ends : List ℕ} {x e : ℕ} (b : ℕ) → b ≤ x → NoEnd ends b x → RunEnd ends x e → RunEnd ends b e
+run-longer {x = x} b h n r = record {
+  upto = omega (arith, r .upto);
+  byte = r .byte;
+  end = r .end;
+  before = λ c l k. elim (split c x) [ inl y ↦ n c y k | inr y ↦ r .before c l y ];
 }
-
-module _ {ends last : List ℕ} {n b : ℕ} (x : Listing ends last n b) where
-  -- no end from b up to t
-  listing-on : (t : ℕ) → b ≤ t → NoEnd ends b t → Listing ends last n t
-  listing-on t h j = record {
-    size = x .size;
-    few = omega (arith, x .few);
-    fit = x .fit;
-    before = λ i l. omega (arith, x .before i l);
-    byte = x .byte;
-    rising = x .rising;
-    joins = λ a f c l k. elim (split c b) [ inl y ↦ x .joins a f c y k | inr y ↦ j c l y ];
-    run = x .run;
-  }
-
-  -- b is no end
-  pub listing-pass : bitAt ends 0 b ≡ 0 → Listing ends last n (b + 1)
-  listing-pass z = listing-on (b + 1) (omega arith) (λ c h l. (let e : c ≡ b = omega arith in rw e z))
-
-  -- of eight bytes none is
-  pub listing-eight : getD ends (b / 8) 0 ≡ 0 → Listing ends last n (b + (8 - b % 8))
-  listing-eight z = listing-on (b + (8 - b % 8)) (omega arith) (λ c h l. (let e : 0 * byteSet + c / 8 ≡ b / 8 = omega arith in rw (e, z, zero-div)))
-
--- one run more, up to v
-module _ {ends last : List ℕ} {n b : ℕ} (x : Listing ends last n b) (v : ℕ) (after : After last n v) (joins : (a : ℕ) → After last n a → NoEnd ends a v) where
-  kept : (j : ℕ) → j < n → getD (set last n v) j 0 ≡ getD last j 0
-  kept j h = getD-set-other last n j v 0 (λ e. omega arith)
-
-  here : getD (set last n v) n 0 ≡ v
-  here = getD-set-same last n v 0 (omega (arith, x .size, x .fit))
-
-  -- what is after the runs before, and after v
-  after-more : (a : ℕ) → After last n a → v < a → After (set last n v) (n + 1) a
-  after-more a f h = below-more (λ (j : ℕ). getD (set last n v) j 0 < a) n (λ j l. omega (arith, kept j l, f j l)) (omega (arith, here))
-
-  rising-more : (i : ℕ) → i < n + 1 → After (set last n v) i (getD (set last n v) i 0)
-  rising-more = below-more (λ (i : ℕ). After (set last n v) i (getD (set last n v) i 0)) n
-      (λ i h j l. omega (arith, kept i h, kept j (omega arith), x .rising i h j l)) (λ j l. omega (arith, here, kept j l, after j l))
-
-  run-more : (a : ℕ) → Reached ends (set last n v) (n + 1) a ⊎ After (set last n v) (n + 1) a
-  run-more a = elim (x .run a) [
-    | inl (i, l, at, q) ↦ inl (
-      i,
-      omega arith,
-      record { upto = omega (arith, kept i l, at .upto); after = λ j h. omega (arith, kept j (omega arith), at .after j h) },
-      rw (kept i l) q,
-    )
-    | inr f ↦ elim (split v a) [
-      | inl h ↦ inr (after-more a f h)
-      | inr h ↦ inl (n, omega arith, record { upto = omega (arith, here); after = λ j l. omega (arith, kept j l, f j l) }, rw here (joins a f))
-    ]
-  ]
-
--- b is an end
-pub listing-more : {ends last : List ℕ} {n b : ℕ} → b < 255 → Listing ends last n b → Listing ends (set last n b) (n + 1) (b + 1)
-listing-more {last = last} {n} {b} h x =
-    let here′ = here x b (x .before) (x .joins) in
-    record {
-      size = length-set last n b ∙ x .size;
-      few = omega (arith, x .few);
-      fit = omega (arith, x .few);
-      before = after-more x b (x .before) (x .joins) (b + 1) (λ j l. omega (arith, x .before j l)) (omega arith);
-      byte = after-more x b (x .before) (x .joins) 255 (x .byte) h;
-      rising = rising-more x b (x .before) (x .joins);
-      joins = λ a f c l k. absurd (omega (arith, f n (omega arith), here′));
-      run = run-more x b (x .before) (x .joins);
-    }
-
--- 255 is the last
-pub listing-all : {ends last : List ℕ} {n b : ℕ} → 255 ≤ b → Listing ends last n b → RunsOf (NoEnd ends) (set last n 255) (n + 1)
-listing-all {ends} {last} {n} {b} h x =
-    let joins : (a : ℕ) → After last n a → NoEnd ends a 255 = λ a f c l. x .joins a f c (omega arith) in
-    let here′ = here x 255 (x .byte) joins in
-    record {
-      listed = record {
-        size = length-set last n 255 ∙ x .size;
-        few = omega (arith, x .fit);
-        byte = after-more x 255 (x .byte) joins byteValues (λ j l. omega (arith, x .byte j l)) (omega arith);
-        rising = rising-more x 255 (x .byte) joins;
-      };
-      run = λ a l. elim (run-more x 255 (x .byte) joins a) [ inl y ↦ y | inr f ↦ absurd (omega (arith, f n (omega arith), here′)) ];
-    }

@@ -1,36 +1,46 @@
--- Runs of byte values, numbered from 0, each known by its last byte. The bytes at which runs end are a byte set too.
---   Like m n a b: each of the first n positions holds both a and b or neither
+-- Runs of byte values, each known by its last byte, its end. The ends are bits of words, 64 byte values a word.
+--   lastByte: the last byte value, always an end
+--   isEnd ends b: b is an end
 --   NoEnd ends a b: no byte from a up to b is an end
---   EndsNoted m p old new: a byte is no end in `new` only if it is none in `old`, and the position p + 1 holds both it and the next or neither
---   Listed last count: `last` has `count` bytes, rising
---   InRun last i b: b is in the run number i
---   RunsOf R last count: each byte is in one of the runs, and is like its last byte, by R
-use Prim.Native.Nat.{ℕ, _+_, _<_, _≤_}
+--   RunEnd ends b e: e is the end of the run that b is in
+--   EightBytes m at x: x has the bits of the eight bytes from `at` on
+--   Like m n a b: each of the first n positions holds both a and b or neither
+--   EndsNoted m p old new e: a byte below e is no end in `new` only if it is none in `old`, and the position p + 1 holds both it and the next or neither
+--   RunsOf R ends: two bytes with no end from the one up to the other are alike by R
+use Prim.Native.Nat.{ℕ, _+_, _-_, _/_, _%_, _^_, _<_, _≤_}
 use mathlib.Core.Path.{_≡_}
+use mathlib.Core.Bool.{Bool, true, false}
 use mathlib.Core.List.{List}
-use lib.ListN.{length, getD}
+use lib.ListN.{getD}
 use Rattle.scope.specs.Limits.{byteValues}
+use Rattle.scope.specs.Positions.Bits.{has}
 use Rattle.sets.specs.Layout.{bitAt}
+
+abbrev pub lastByte : ℕ
+lastByte = byteValues - 1
+
+abbrev pub isEnd : List ℕ → ℕ → Bool
+isEnd ends b = has (getD ends (b / 64) 0) (b % 64)
+
+abbrev pub NoEnd : List ℕ → ℕ → ℕ → Type 0
+NoEnd ends a b = (c : ℕ) → c < b → a ≤ c → isEnd ends c ≡ false
+
+pub record RunEnd (ends : List ℕ) (b e : ℕ) : Type 0 where
+  pub upto : b ≤ e
+  pub byte : e < byteValues
+  pub end : isEnd ends e ≡ true
+  pub before : NoEnd ends b e
+
+pub record EightBytes (m : List ℕ) (at x : ℕ) : Type 0 where
+  pub bits : (j : ℕ) → j < 64 → x / 2 ^ j % 2 ≡ getD m (at + j / 8) 0 / 2 ^ (j % 8) % 2
 
 abbrev pub Like : List ℕ → ℕ → ℕ → ℕ → Type 0
 Like m n a b = (p : ℕ) → p < n → bitAt m p a ≡ bitAt m p b
 
-abbrev pub NoEnd : List ℕ → ℕ → ℕ → Type 0
-NoEnd ends a b = (c : ℕ) → c < b → a ≤ c → bitAt ends 0 c ≡ 0
+pub record EndsNoted (m : List ℕ) (p : ℕ) (old new : List ℕ) (e : ℕ) : Type 0 where
+  pub kept : (b : ℕ) → b < e → isEnd new b ≡ false → isEnd old b ≡ false
+  pub same : (b : ℕ) → b < e → isEnd new b ≡ false → bitAt m p b ≡ bitAt m p (b + 1)
 
-abbrev pub EndsNoted : List ℕ → ℕ → List ℕ → List ℕ → Type 0
-EndsNoted m p old new = (b : ℕ) → b < byteValues → bitAt new 0 b ≡ 0 → (bitAt old 0 b ≡ 0) × (bitAt m p b ≡ bitAt m p (b + 1))
-
-pub record Listed (last : List ℕ) (count : ℕ) : Type 0 where
-  pub size : length last ≡ byteValues
-  pub few : count ≤ byteValues
-  pub byte : (i : ℕ) → i < count → getD last i 0 < byteValues
-  pub rising : (i : ℕ) → i < count → (j : ℕ) → j < i → getD last j 0 < getD last i 0
-
-pub record InRun (last : List ℕ) (i b : ℕ) : Type 0 where
-  pub upto : b ≤ getD last i 0
-  pub after : (j : ℕ) → j < i → getD last j 0 < b
-
-pub record RunsOf (R : ℕ → ℕ → Type 0) (last : List ℕ) (count : ℕ) : Type 0 where
-  pub listed : Listed last count
-  pub run : (b : ℕ) → b < byteValues → (i : ℕ) × (i < count) × InRun last i b × R b (getD last i 0)
+pub record RunsOf (R : ℕ → ℕ → Type 0) (ends : List ℕ) : Type 0 where
+  pub last : isEnd ends lastByte ≡ true
+  pub alike : (a b : ℕ) → a ≤ b → b < byteValues → NoEnd ends a b → R a b

@@ -1,21 +1,20 @@
 // Runs of byte values: stretches that every position holds wholly or not at all. Neighbouring byte values that no position tells apart are split, and given
-// their masks, once.
+// their masks, once. A run is known by its last byte, its end; the ends are the bits of four words.
 ghost use mathlib.Core.Path.{_≡_};
+ghost use mathlib.Core.Bool.{true};
 ghost use Prim.Native.Nat.{_*_, _<_, _≤_, _+_};
 ghost use lib.ListN.{length};
 ghost use Rattle.scope.specs.Limits.{byteValues, positionLimit};
 ghost use Rattle.sets.specs.Layout.{byteSet, bitAt};
-ghost use Rattle.byte_runs.specs.Runs.{EndsNoted, NoEnd, RunsOf, Like};
+ghost use Rattle.byte_runs.specs.Runs.{lastByte, isEnd, EightBytes, EndsNoted, RunEnd, RunsOf, Like};
 use scope::Machine;
 use sets::layout::BYTE_SET;
 
-const LAST_BYTE: usize = Machine::BYTES - 1;
+// How many words have a bit for each byte value.
+pub const END_WORDS: usize = Machine::BYTES / 64;
 
-// The last byte of each run, rising, and how many runs there are.
-pub struct Runs {
-    pub last: [u8; Machine::BYTES],
-    pub count: usize,
-}
+// The highest bit of a word.
+const HIGHEST: u64 = 1 << 63;
 
 // 1 if the position p + 1 holds the byte b, else 0.
 pub fn bit(bytes: &[u8], p: usize, b: usize) -> usize
@@ -26,59 +25,64 @@ pub fn bit(bytes: &[u8], p: usize, b: usize) -> usize
     (x >> (b % 8)) % 2
 }
 
+// The eight bytes from `at` on as one number, the lowest first.
+fn word(bytes: &[u8], at: usize) -> u64
+    requires { ⌜ at + 8 ≤ length (now bytes) ⌝ }
+    ensures { λ r. ⌜ EightBytes (now (bytes .entry)) at r ⌝ }
+{
+    let mut x: u64 = 0;
+    let mut i: usize = 8;
+    while i > 0 {
+        i -= 1;
+        x = x * 256 + bytes[at + i] as u64;
+    }
+    x
+}
+
 // The ends so far, and b besides where the position p + 1 holds one of b and b + 1 and not the other. What it says of 255, after which the byte set is over, no
 // one asks.
-fn note(bytes: &[u8], p: usize, ends: [u8; BYTE_SET]) -> [u8; BYTE_SET]
+fn note(bytes: &[u8], p: usize, ends: [u64; END_WORDS]) -> [u64; END_WORDS]
     requires { ⌜ p * byteSet + byteSet < length (now bytes) ⌝ }
-    ensures { λ r. ⌜ EndsNoted (now (bytes .entry)) p ends r ⌝ }
+    ensures { λ r. ⌜ EndsNoted (now (bytes .entry)) p ends r byteValues ⌝ }
 {
-    let mut noted = [0u8; BYTE_SET];
-    let mut g: usize = 0;
-    while g < BYTE_SET {
-        let x = bytes[p * BYTE_SET + g];
-        let y = bytes[p * BYTE_SET + g + 1];
-        noted[g] = ends[g] | (x ^ (x / 2 + y % 2 * 128));
-        g += 1;
+    let mut noted = [0u64; END_WORDS];
+    let mut w: usize = 0;
+    while w < END_WORDS {
+        let at = p * BYTE_SET + 8 * w;
+        let x = word(bytes, at);
+        let y = bytes[at + 8] as u64;
+        noted[w] = ends[w] | (x ^ (y % 2 * HIGHEST + x / 2));
+        w += 1;
     }
     noted
 }
 
-// The runs up to each end, and up to 255.
-fn list(ends: [u8; BYTE_SET]) -> Runs
-    ensures { λ r. ⌜ RunsOf (NoEnd ends) (r .last) (r .count) ⌝ }
-{
-    let mut last = [0u8; Machine::BYTES];
-    let mut n: usize = 0;
-    let mut b: usize = 0;
-    while b < LAST_BYTE {
-        if ends[b / 8] == 0 {
-            b += 8 - b % 8;
-        } else {
-            if bit(&ends, 0, b) == 1 {
-                last[n] = b as u8;
-                n += 1;
-            }
-            b += 1;
-        }
-    }
-    last[n] = LAST_BYTE as u8;
-    Runs {
-        last: last,
-        count: n + 1,
-    }
-}
-
-// The runs of byte values that all positions hold wholly or not at all.
-pub fn find(bytes: &[u8], count: usize) -> Runs
+// The ends of the runs of byte values that all positions hold wholly or not at all, 255 among them.
+pub fn find(bytes: &[u8], count: usize) -> [u64; END_WORDS]
     requires { ⌜ (count ≤ positionLimit) × (count * byteSet < length (now bytes)) ⌝ }
-    ensures { λ r. ⌜ RunsOf (Like (now (bytes .entry)) count) (r .last) (r .count) ⌝ }
+    ensures { λ r. ⌜ RunsOf (Like (now (bytes .entry)) count) r ⌝ }
 {
-    let mut ends = [0u8; BYTE_SET];
+    let mut ends = [0u64; END_WORDS];
+    ends[END_WORDS - 1] = HIGHEST;
     let mut p: usize = 0;
     while p < count {
         let noted = note(bytes, p, ends);
         ends = noted;
         p += 1;
     }
-    list(ends)
+    ends
+}
+
+// The end of the run that b is in.
+pub fn end_of(ends: [u64; END_WORDS], b: usize) -> usize
+    requires { ⌜ (b < byteValues) × (isEnd ends lastByte ≡ true) ⌝ }
+    ensures { λ r. ⌜ RunEnd ends b r ⌝ }
+{
+    let mut x = b;
+    let mut rest = ends[x / 64] >> (x % 64);
+    while rest == 0 {
+        x += 64 - x % 64;
+        rest = ends[x / 64];
+    }
+    x + u64::trailing_zeros(rest) as usize
 }

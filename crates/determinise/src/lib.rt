@@ -23,15 +23,13 @@ pub fn build(bytes: &mut [u8], words: &mut [u64], count: usize, last: Set, null:
     requires { ⌜ (count ≤ positionLimit) × Scratch (now bytes) (now words) ⌝ }
     ensures { λ r. ⌜ Builds (now (bytes .entry)) (now (words .entry)) count (setValue (last .words)) null (now (bytes .exit)) (now (words .exit)) r ⌝ }
 {
-    let found = byte_runs::find(bytes, count);
-    let ends = found.last;
-    let runs = found.count;
-    let groups = byte_classes::group::group(bytes, count, &ends, runs);
+    let ends = byte_runs::find(bytes, count);
+    let groups = byte_classes::group::group(bytes, count, ends);
     let counted = groups.answer;
     match counted {
         Counted::Few(k) => {
             let map = groups.map;
-            let masks = byte_classes::masks::class_masks(bytes, count, &ends, runs, map);
+            let masks = byte_classes::masks::class_masks(bytes, count, ends, map);
             image::determinise(
                 &mut bytes[IMAGE_AT..],
                 words,

@@ -1,10 +1,8 @@
 -- The invariant: where no end is noted, none of the first p positions tells a byte from the next (`Quiet`).
 use Prim.Native.Nat.{_≤_, _-_}
-use mathlib.Core.Path.{_≡_}
+use mathlib.Core.Path.{_≡_, refl}
 use native.Mathlib.Omega.{arith}
 use borrow.Author.Needs.{needs}
-use lib.ListN.{replicate}
-use Rattle.sets.specs.Layout.{byteSet}
 use Rattle.byte_runs.proofs.Ends.{Quiet, quiet-none, quiet-more, quiet-runs}
 use Rattle.byte_runs.proofs.find.Statement.{statement}
 use Rattle.byte_runs.proofs.find.Tie as tie
@@ -15,14 +13,32 @@ Inv-loop bytes count ends₀ p₀ ends p = (p ≤ count) × Quiet bytes p ends
 abbrev μ-loop : tie.MeasureT-loop
 μ-loop bytes count ends₀ p₀ ends p = count - p
 
+sub-ends : tie.Need-sub-ends Inv-loop μ-loop
+sub-ends c = search needs
+
+mul-ends : tie.Need-mul-ends Inv-loop μ-loop
+mul-ends c = search needs
+
+array-write-ends : tie.Need-array-write-ends Inv-loop μ-loop
+array-write-ends c = search needs
+
 loop-holds : tie.Need-loop-holds Inv-loop μ-loop
-loop-holds c = (search needs, quiet-none (c .before .args .bytes .now) (replicate byteSet 0))
+loop-holds c = (search needs, quiet-none _ _ refl)
+
+note-requires : tie.Need-note-requires Inv-loop μ-loop
+note-requires c κs = search needs
+
+add-p : tie.Need-add-p Inv-loop μ-loop
+add-p c = search needs
+
+loop-less : tie.Need-loop-less Inv-loop μ-loop
+loop-less c = search needs
 
 loop-again : tie.Need-loop-again Inv-loop μ-loop
-loop-again c = let l = c .before .before in (search needs, quiet-more (l .before .before .args .bytes .now) (l .loop .p) (l .loop .ends) (c .note .result) (l .loop .inv .1) (c .note .ensures))
+loop-again c = (search needs, quiet-more (c .before .before .loop .inv .1) (c .note .ensures))
 
 returns : tie.Need-returns Inv-loop μ-loop
-returns c = let l = c .before .before in let e : l .loop .p ≡ l .before .before .args .count = omega arith in quiet-runs (l .before .before .args .bytes .now) _ (l .loop .ends) _ _ (rw e at (l .loop .inv .1)) (c .list .ensures)
+returns c = let l = c .before in let e : l .loop .p ≡ l .before .before .args .count = omega arith in quiet-runs (rw e at (l .loop .inv .1))
 
 pub find-spec : {M : Type 1} → statement M
 find-spec =
@@ -30,10 +46,12 @@ find-spec =
     (tie.spec
     Inv-loop
     μ-loop
+    sub-ends
+    mul-ends
+    array-write-ends
     loop-holds
-    (λ c κs. search needs)
-    (λ c. search needs)
-    (λ c. search needs)
+    note-requires
+    add-p
+    loop-less
     loop-again
-    (λ c κs. search needs)
     returns)

@@ -1,29 +1,75 @@
--- The invariant: the bytes of the set below g are noted (`EndsNoting`).
-use Prim.Native.Nat.{_≤_, _-_, _+_, _*_}
+-- The invariant: the byte values of the words below w are noted.
+use Prim.Native.Nat.{_+_, _-_, _*_, _≤_}
+use mathlib.Core.Path.{_≡_}
 use native.Mathlib.Omega.{arith}
 use borrow.Author.Needs.{needs}
+use lib.ListN.{length}
+use Rattle.scope.specs.Limits.{byteValues}
 use Rattle.sets.specs.Layout.{byteSet}
-use Rattle.byte_runs.proofs.Ends.{EndsNoting, noting-none, noting-more, noting-all}
+use Rattle.byte_runs.specs.Runs.{EndsNoted}
+use Rattle.byte_runs.proofs.Ends.{noted-none, noted-more}
 use Rattle.byte_runs.proofs.note.Statement.{statement}
 use Rattle.byte_runs.proofs.note.Tie as tie
 
 abbrev Inv-loop : tie.InvT-loop
-Inv-loop bytes p ends noted₀ g₀ noted g = (g ≤ byteSet) × EndsNoting bytes p ends noted g
+Inv-loop bytes p ends noted₀ w₀ noted w = (64 * w ≤ byteValues) × (64 * length noted ≡ byteValues) × EndsNoted bytes p ends noted (64 * w)
 
 abbrev μ-loop : tie.MeasureT-loop
-μ-loop bytes p ends noted₀ g₀ noted g = byteSet - g
+μ-loop bytes p ends noted₀ w₀ noted w = byteValues - 64 * w
 
 loop-holds : tie.Need-loop-holds Inv-loop μ-loop
-loop-holds c = (search needs, noting-none _ _ _)
+loop-holds c = (search needs, search needs, noted-none _ _ _ _)
+
+mul-at : tie.Need-mul-at Inv-loop μ-loop
+mul-at c = search needs
+
+mul-at-2 : tie.Need-mul-at-2 Inv-loop μ-loop
+mul-at-2 c = search needs
+
+add-at : tie.Need-add-at Inv-loop μ-loop
+add-at c = search needs
+
+word-requires : tie.Need-word-requires Inv-loop μ-loop
+word-requires c κs = search needs
+
+add-y : tie.Need-add-y Inv-loop μ-loop
+add-y c = search needs
+
+shared-slice-read-y : tie.Need-shared-slice-read-y Inv-loop μ-loop
+shared-slice-read-y c = search needs
+
+cast-y : tie.Need-cast-y Inv-loop μ-loop
+cast-y c = let l = c .before .before .before in omega (arith, c .shared-slice-known2 .given (l .before .before .args .p * byteSet + 8 * l .loop .w + 8))
+
+mul-noted : tie.Need-mul-noted Inv-loop μ-loop
+mul-noted c = search needs
+
+array-read-noted : tie.Need-array-read-noted Inv-loop μ-loop
+array-read-noted c = search needs
+
+mul-noted-2 : tie.Need-mul-noted-2 Inv-loop μ-loop
+mul-noted-2 c = search needs
 
 add-noted : tie.Need-add-noted Inv-loop μ-loop
-add-noted c = omega (arith, c .before .shared-slice-known .given (c .before .before .before .before .args .p * byteSet + c .before .before .before .loop .g))
+add-noted c = search needs
+
+mul-noted-3 : tie.Need-mul-noted-3 Inv-loop μ-loop
+mul-noted-3 c = search needs
+
+array-write-noted : tie.Need-array-write-noted Inv-loop μ-loop
+array-write-noted c = search needs
+
+add-w : tie.Need-add-w Inv-loop μ-loop
+add-w c = search needs
+
+loop-less : tie.Need-loop-less Inv-loop μ-loop
+loop-less c = search needs
 
 loop-again : tie.Need-loop-again Inv-loop μ-loop
-loop-again c = let l = c .before .before .before in (search needs, noting-more (l .loop .inv .1) (c .before .before .loop-test .taken) (omega (arith, c .before .shared-slice-known .given (l .before .args .p * byteSet + l .loop .g))))
+loop-again c = let l = c .before .before .before in (search needs, search needs, noted-more (l .loop .w) (l .loop .inv .2) (omega (arith, l .loop .inv .1)) (c .before .word .ensures) (omega arith))
 
 returns : tie.Need-returns Inv-loop μ-loop
-returns c = noting-all (c .loop-test .left) (c .before .loop .inv .1)
+returns c = let e : 64 * c .before .loop .w ≡ byteValues = omega arith in rw e at (c .before .loop .inv .2)
 
 pub note-spec : {M : Type 1} → statement M
 note-spec =
@@ -32,18 +78,20 @@ note-spec =
     Inv-loop
     μ-loop
     loop-holds
-    (λ c. search needs)
-    (λ c. search needs)
-    (λ c. search needs)
-    (λ c. search needs)
-    (λ c. search needs)
-    (λ c. search needs)
-    (λ c. search needs)
-    (λ c. search needs)
-    (λ c. search needs)
+    mul-at
+    mul-at-2
+    add-at
+    word-requires
+    add-y
+    shared-slice-read-y
+    cast-y
+    mul-noted
+    array-read-noted
+    mul-noted-2
     add-noted
-    (λ c. search needs)
-    (λ c. search needs)
-    (λ c. search needs)
+    mul-noted-3
+    array-write-noted
+    add-w
+    loop-less
     loop-again
     returns)

@@ -1,0 +1,89 @@
+-- The invariant: from b up to x there is no end, and `rest` is what is left of the word of x. 255 is an end, so there is one.
+use Prim.Native.Nat.{_+_, _-_, _/_, _%_, _≤_, _<_}
+use mir.Syntax.{w64}
+use mir.Val.{Fits}
+use native.Mathlib.Omega.{arith}
+use borrow.Author.Needs.{needs}
+use lib.Count.{trailingZeros}
+use lib.ListN.{getD}
+use Rattle.scope.specs.Limits.{byteValues}
+use Rattle.byte_runs.specs.Runs.{NoEnd, RunEnd}
+use Rattle.byte_runs.proofs.Ends.{Rest, rest-at, rest-end, rest-past, rest-word, before-last, run-longer}
+use Rattle.byte_runs.proofs.end_of.Statement.{statement}
+use Rattle.byte_runs.proofs.end_of.Tie as tie
+
+abbrev Inv-loop : tie.InvT-loop
+Inv-loop b ends x₀ rest₀ x rest = (b ≤ x) × (x < byteValues) × NoEnd ends b x × Rest ends (x / 64) rest x
+
+abbrev μ-loop : tie.MeasureT-loop
+μ-loop b ends x₀ rest₀ x rest = byteValues - x
+
+mul-rest : tie.Need-mul-rest Inv-loop μ-loop
+mul-rest c = search needs
+
+array-read-rest : tie.Need-array-read-rest Inv-loop μ-loop
+array-read-rest c = search needs
+
+shr-rest : tie.Need-shr-rest Inv-loop μ-loop
+shr-rest c = search needs
+
+loop-holds : tie.Need-loop-holds Inv-loop μ-loop
+loop-holds c = (search needs, search needs, λ x h k. absurd (omega arith), rest-at _ _)
+
+sub-x : tie.Need-sub-x Inv-loop μ-loop
+sub-x c = search needs
+
+add-x : tie.Need-add-x Inv-loop μ-loop
+add-x c = search needs
+
+mul-rest-2 : tie.Need-mul-rest-2 Inv-loop μ-loop
+mul-rest-2 c = search needs
+
+-- the word is passed
+passed : (c : tie.In-loop Inv-loop μ-loop) → NoEnd (c .before .before .args .t1) (c .before .before .args .b) (c .before .loop .x + (64 - c .before .loop .x % 64))
+passed c = rest-past (c .before .before .args .b) (c .before .loop .inv .2) (c .before .loop .inv .3) (c .loop-test .taken)
+
+-- and was not the last
+more : (c : tie.In-loop Inv-loop μ-loop) → c .before .loop .x + (64 - c .before .loop .x % 64) < byteValues
+more c = before-last (c .before .before .args .t1) (c .before .before .args .b) _ (c .before .before .pre .1) (c .before .before .pre .0) (passed c)
+
+array-read-rest-2 : tie.Need-array-read-rest-2 Inv-loop μ-loop
+array-read-rest-2 c = omega (arith, more c)
+
+loop-again : tie.Need-loop-again Inv-loop μ-loop
+loop-again c = (search needs, more c, passed c, rest-word (c .before .before .args .t1) (c .before .loop .x))
+
+found : (c : tie.After-loop Inv-loop μ-loop) → RunEnd (c .before .before .args .t1) (c .before .loop .x) (c .before .loop .x + trailingZeros 64 (c .before .loop .rest))
+found c =
+    let l = c .before .loop in
+    let fit : Fits w64 (getD (c .before .before .args .t1) (l .x / 64) 0) = search needs in
+    rest-end (l .inv .3) (fit .fits) (c .loop-test .left) (omega (arith, l .inv .1))
+
+cast-result : tie.Need-cast-result Inv-loop μ-loop
+cast-result c = omega (arith, found c .byte)
+
+add-result : tie.Need-add-result Inv-loop μ-loop
+add-result c = omega (arith, found c .byte)
+
+returns : tie.Need-returns Inv-loop μ-loop
+returns c = run-longer (c .before .before .args .b) (c .before .loop .inv .0) (c .before .loop .inv .2) (found c)
+
+pub end-of-spec : {M : Type 1} → statement M
+end-of-spec =
+    tie.close
+    (tie.spec
+    Inv-loop
+    μ-loop
+    mul-rest
+    array-read-rest
+    shr-rest
+    loop-holds
+    sub-x
+    add-x
+    mul-rest-2
+    array-read-rest-2
+    (λ c. search needs)
+    loop-again
+    cast-result
+    add-result
+    returns)
