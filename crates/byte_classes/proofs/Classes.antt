@@ -1,11 +1,13 @@
--- Grouping. A split reads one thing more: its key has a class already, or takes the next number. A position more splits the classes so far.
---   class-below, class-used: a class is below their number, and each has a thing
---   Splitting: the loop of a split: the classes of the keys of the things below b, and the table of their names
---   splitting-none, splitting-below, splitting-old, splitting-new, splitting-full, splitting-all: its turns
+-- Grouping. A split reads the bytes run by run: the key of a run has a class already, or takes the next number. A position more splits the classes so far.
+--   class-below, class-used: a class is below their number, and each has a byte
+--   Splitting: the loops of a split: the classes of the keys of the runs that end below b, and the table of their names
+--   splitting-none, splitting-pass, splitting-below, splitting-old, splitting-new, splitting-full, splitting-all: their turns
 --   like-key: splitting by a position
 --   group-none, group-below, group-next, group-many: the loop over the positions
+--   spread-more, group-spread: the classes spread over the bytes
 use Prim.Native.Nat.{ℕ, zero, suc, _+_, _-_, _*_, _≤_, _<_}
 use mathlib.Core.Path.{_≡_, refl, sym, ap₂, subst, _∙_}
+use mathlib.Core.Bool.{true}
 use mathlib.Core.List.{List}
 use mathlib.Core.Logic.{inl, inr, _↔_}
 use native.Mathlib.Omega.{arith}
@@ -16,18 +18,22 @@ use lib.Seq.{getD-set-same, getD-set-other}
 use Rattle.scope.specs.Limits.{byteValues, classLimit}
 use Rattle.scope.specs.Machines.Canonical.{met}
 use Rattle.scope.specs.Count.{Over}
-use Rattle.scope.proofs.Counting.Arrival.{met-above}
+use Rattle.scope.proofs.Counting.Arrival.{met-above, arrival-ext}
 use Rattle.scope.proofs.Counting.Tests.{split}
 use Rattle.scope.proofs.Counting.Lists.{zeros}
 use Rattle.buffers.specs.Numbered.{Came, Numbered}
-use Rattle.buffers.proofs.Numbered.{numbered-none, numbered-old, numbered-new, numbered-arrival, numbered-one}
+use Rattle.buffers.specs.Stored.{Stored}
+use Rattle.buffers.proofs.OneMore.{stored-then}
+use Rattle.buffers.proofs.Numbered.{numbered-none, numbered-same, numbered-new, numbered-arrival, numbered-one}
 use Rattle.sets.specs.Layout.{bitAt}
 use Rattle.sets.proofs.HeldBits.{bit-small}
-use Rattle.byte_classes.specs.Group.{By, Key, Classes, Grouped, GroupAnswer, ClassesBelow}
-use Rattle.byte_runs.specs.Runs.{Listed, Like}
+use Rattle.byte_runs.specs.Runs.{lastByte, isEnd, NoEnd, RunEnd, Like}
+use Rattle.byte_runs.proofs.Ends.{before-last, run-longer}
+use Rattle.byte_classes.specs.Group.{endOf, ownPlace, Key, Classes, Grouped, GroupAnswer, ClassesBelow}
 use Rattle.byte_classes.specs.declared.Counted.{Counted}
 use Rattle.byte_classes.specs.declared.Counted.the-variants.{Few, Many}
-use Rattle.byte_classes.proofs.NumbersMet.{met-used, numbered-met, over-one}
+use Rattle.byte_classes.proofs.NumbersMet.{met-used, met-same, numbered-on, numbered-met, over-one}
+use Rattle.byte_classes.proofs.RunEnds.{end-inside}
 
 abbrev Same : ℕ → ℕ → Type 0
 Same a b = a ≡ b
@@ -35,37 +41,53 @@ Same a b = a ≡ b
 -- ---- classes
 
 -- a class is below their number
-pub class-below : {R : ℕ → ℕ → Type 0} {class : ℕ → ℕ} {k e : ℕ} → Classes R class k e → (a : ℕ) → a < e → class a < k
-class-below {class = class} {e = e} c a h = omega (arith, met-above class 0 e a h, c .count)
+pub class-below : {R : ℕ → ℕ → Type 0} {class : ℕ → ℕ} {k : ℕ} → Classes R class k → (a : ℕ) → a < byteValues → class a < k
+class-below {class = class} c a h = omega (arith, met-above class 0 byteValues a h, c .count)
 
--- each class has a thing
-pub class-used : {R : ℕ → ℕ → Type 0} {class : ℕ → ℕ} {k e : ℕ} → Classes R class k e → (i : ℕ) → i < k → (b : ℕ) × (b < e) × (class b ≡ i)
-class-used {class = class} {e = e} c i h = met-used class e i (c .smallest) (rw (c .count) h)
+-- each class has a byte
+pub class-used : {R : ℕ → ℕ → Type 0} {class : ℕ → ℕ} {k : ℕ} → Classes R class k → (i : ℕ) → i < k → (b : ℕ) × (b < byteValues) × (class b ≡ i)
+class-used {class = class} c i h = met-used class byteValues i (c .smallest) (rw (c .count) h)
 
--- ---- the loop of a split
+-- ---- the loops of a split
 
--- the key of a thing: its old class, and whether the position p + 1 holds its byte
-abbrev keyOf : List ℕ → ℕ → List ℕ → List ℕ → ℕ → ℕ
-keyOf m p byte old a = 2 * getD old a 0 + bitAt m p (getD byte a 0)
+-- what a byte is told apart by: the class of its run, and whether the position p + 1 holds the end
+abbrev keyOf : List ℕ → ℕ → (ℕ → ℕ) → List ℕ → ℕ → ℕ
+keyOf m p at old a = 2 * getD old (at a) 0 + bitAt m p (at a)
 
--- lead has the key of each class; names has for each of these keys 1 more than its class, and 0 for the others
-pub record Splitting (m : List ℕ) (p : ℕ) (byte old names map : List ℕ) (k b : ℕ) : Type 0 where
+-- the bytes below `from` are those of the runs that end below b; lead has the key of each class; names has for each of these keys 1 more than its class, and 0
+-- for the others
+pub record Splitting (m : List ℕ) (p : ℕ) (ends old names map : List ℕ) (k b : ℕ) : Type 0 where
+  pub last : isEnd ends lastByte ≡ true
+  pub below : ClassesBelow (endOf ends) old
   pub names-size : length names ≡ 2 * classLimit
   pub map-size : length map ≡ byteValues
   pub few : k ≤ classLimit
-  -- the old classes stand from b on
-  pub ahead : (a : ℕ) → b ≤ a → getD map a 0 ≡ getD old a 0
+  pub from : ℕ
+  pub upto : from ≤ b
+  pub byte : from ≤ byteValues
+  pub passed : NoEnd ends from b
+  pub whole : (a : ℕ) → a < from → endOf ends a < from
+  -- the old classes stand there
+  pub ahead : (a : ℕ) → from ≤ a → getD map a 0 ≡ getD old a 0
   pub lead : List ℕ
   pub leads : length lead ≡ classLimit
-  pub numbered : Numbered Same (keyOf m p byte old) (λ a. getD map a 0) (λ v. getD lead v 0) 0 k b
+  pub numbered : Numbered Same (keyOf m p (endOf ends) old) (λ a. getD map (endOf ends a) 0) (λ v. getD lead v 0) 0 k from
   pub new : (i : ℕ) → getD names i 0 ≡ 0 → (v : ℕ) → v < k → getD lead v 0 ≡ i → ⊥
   pub known : (i : ℕ) → (getD names i 0 ≡ 0 → ⊥) → (getD names i 0 ≤ k) × (getD lead (getD names i 0 - 1) 0 ≡ i)
 
-pub splitting-none : (m : List ℕ) (p : ℕ) (byte old : List ℕ) → length old ≡ byteValues → Splitting m p byte old (replicate (2 * classLimit) 0) old 0 0
-splitting-none m p byte old size = record {
+-- no byte yet
+pub splitting-none : (m : List ℕ) (p : ℕ) (ends old : List ℕ) → isEnd ends lastByte ≡ true → length old ≡ byteValues → ClassesBelow (endOf ends) old → Splitting m p ends old (replicate (2 * classLimit) 0) old 0 0
+splitting-none m p ends old last size below = record {
+  last = last;
+  below = below;
   names-size = length-replicate {A = ℕ} (2 * classLimit) 0;
   map-size = size;
   few = omega arith;
+  from = 0;
+  upto = omega arith;
+  byte = omega arith;
+  passed = λ c h. absurd (omega arith);
+  whole = λ a h. absurd (omega arith);
   ahead = λ a h. refl;
   lead = replicate classLimit 0;
   leads = length-replicate {A = ℕ} classLimit 0;
@@ -74,108 +96,157 @@ splitting-none m p byte old size = record {
   known = λ i h. absurd (h (zeros (2 * classLimit) i));
 }
 
--- the old class of b is below 64
-pub splitting-below : {m : List ℕ} {p : ℕ} {byte old names map : List ℕ} {k b e : ℕ} → ClassesBelow old e → Splitting m p byte old names map k b → b < e
-    → getD map b 0 < classLimit
-splitting-below {b = b} below s h = omega (arith, below b h, s .ahead b (omega arith))
+-- no end from b up to t
+pub splitting-pass : {m : List ℕ} {p : ℕ} {ends old names map : List ℕ} {k b : ℕ} → Splitting m p ends old names map k b → (t : ℕ) → b ≤ t → NoEnd ends b t
+    → Splitting m p ends old names map k t
+splitting-pass {b = b} s t h n = record {
+  last = s .last;
+  below = s .below;
+  names-size = s .names-size;
+  map-size = s .map-size;
+  few = s .few;
+  from = s .from;
+  upto = omega (arith, s .upto);
+  byte = s .byte;
+  passed = λ c l k. elim (split c b) [ inl y ↦ s .passed c y k | inr y ↦ n c l y ];
+  whole = s .whole;
+  ahead = s .ahead;
+  lead = s .lead;
+  leads = s .leads;
+  numbered = s .numbered;
+  new = s .new;
+  known = s .known;
+}
 
--- x: the bit of b, one of e things
-module _ {m : List ℕ} {p : ℕ} {byte old names map : List ℕ} {k b e x : ℕ} (fit : e ≤ byteValues) (below : ClassesBelow old e) (s : Splitting m p byte old names map k b)
-    (small : b < e) (ex : x ≡ bitAt m p (getD byte b 0)) where
-  at : 2 * getD map b 0 + x ≡ keyOf m p byte old b
-  at = ap₂ (λ (y z : ℕ). 2 * y + z) (s .ahead b (omega arith)) ex
+-- e: the next end
+module _ {m : List ℕ} {p : ℕ} {ends old names map : List ℕ} {k b e : ℕ} (s : Splitting m p ends old names map k b) (r : RunEnd ends b e) where
+  run : RunEnd ends (s .from) e
+  run = run-longer (s .from) (s .upto) (s .passed) r
 
-  kept : (v a : ℕ) → a < b → getD (set map b v) a 0 ≡ getD map a 0
-  kept v a h = getD-set-other map b a v 0 (λ e. omega arith)
+  in-run : (a : ℕ) → s .from ≤ a → a ≤ e → endOf ends a ≡ e
+  in-run = end-inside ends (s .last) run
 
-  later : (v a : ℕ) → b + 1 ≤ a → getD (set map b v) a 0 ≡ getD old a 0
-  later v a h = getD-set-other map b a v 0 (λ e. omega arith) ∙ s .ahead a (omega arith)
+  -- its old class is below 64
+  pub splitting-below : getD map e 0 < classLimit
+  splitting-below = omega (arith, s .ahead e (run .upto), rw (in-run (s .from) (omega arith) (run .upto)) at (s .below (s .from) (omega (arith, run .upto, run .byte))))
 
-  here : (v : ℕ) → getD (set map b v) b 0 ≡ v
-  here v = getD-set-same map b v 0 (omega (arith, s .map-size))
+  -- x: its bit
+  module _ {x : ℕ} (ex : x ≡ bitAt m p e) where
+    at : (a : ℕ) → s .from ≤ a → a ≤ e → 2 * getD map e 0 + x ≡ keyOf m p (endOf ends) old a
+    at a h l = rw (in-run a h l) (ap₂ (λ (y z : ℕ). 2 * y + z) (s .ahead e (run .upto)) ex)
 
-  -- the key has a class
-  pub splitting-old : (getD names (2 * getD map b 0 + x) 0 ≡ 0 → ⊥)
-      → Splitting m p byte old names (set map b (getD names (2 * getD map b 0 + x) 0 - 1)) k (b + 1)
-  splitting-old ne =
-      let v = getD names (2 * getD map b 0 + x) 0 - 1 in
-      let (most, e) = s .known (2 * getD map b 0 + x) ne in
-      record {
-        names-size = s .names-size;
-        map-size = length-set map b v ∙ s .map-size;
-        few = s .few;
-        ahead = later v;
-        lead = s .lead;
-        leads = s .leads;
-        numbered = numbered-old (s .numbered) (keyOf m p byte old) (λ a. getD (set map b v) a 0) (λ w. getD (s .lead) w 0) (λ a h. refl) (kept v) (λ w h. refl)
-            (rw (here v) (omega arith)) (rw (here v) (e ∙ at));
-        new = s .new;
-        known = s .known;
+    kept : (v a : ℕ) → a < s .from → getD (set map e v) (endOf ends a) 0 ≡ getD map (endOf ends a) 0
+    kept v a h = getD-set-other map e (endOf ends a) v 0 (λ q. omega (arith, s .whole a h, run .upto))
+
+    here : (v a : ℕ) → s .from ≤ a → a ≤ e → getD (set map e v) (endOf ends a) 0 ≡ v
+    here v a h l = rw (in-run a h l) (getD-set-same map e v 0 (omega (arith, s .map-size, r .byte)))
+
+    later : (v a : ℕ) → e + 1 ≤ a → getD (set map e v) a 0 ≡ getD old a 0
+    later v a h = getD-set-other map e a v 0 (λ q. omega arith) ∙ s .ahead a (omega (arith, run .upto))
+
+    whole : (a : ℕ) → a < e + 1 → endOf ends a < e + 1
+    whole a h = elim (split a (s .from)) [ inl l ↦ omega (arith, s .whole a l, run .upto) | inr l ↦ omega (arith, in-run a l (omega arith)) ]
+
+    -- the key has a class
+    pub splitting-old : (getD names (2 * getD map e 0 + x) 0 ≡ 0 → ⊥)
+        → Splitting m p ends old names (set map e (getD names (2 * getD map e 0 + x) 0 - 1)) k (e + 1)
+    splitting-old ne =
+        let v = getD names (2 * getD map e 0 + x) 0 - 1 in
+        let (most, q) = s .known (2 * getD map e 0 + x) ne in
+        record {
+          last = s .last;
+          below = s .below;
+          names-size = s .names-size;
+          map-size = length-set map e v ∙ s .map-size;
+          few = s .few;
+          from = e + 1;
+          upto = omega arith;
+          byte = omega (arith, r .byte);
+          passed = λ c h l. absurd (omega arith);
+          whole = whole;
+          ahead = later v;
+          lead = s .lead;
+          leads = s .leads;
+          numbered = numbered-on (numbered-same (s .numbered) (keyOf m p (endOf ends) old) (λ a. getD (set map e v) (endOf ends a) 0) (λ w. getD (s .lead) w 0) (λ a h. refl) (kept v) (λ w h. refl))
+              (e + 1) (omega (arith, run .upto)) (λ a h l. rw (here v a l (omega arith)) (omega arith, q ∙ at a l (omega arith)));
+          new = s .new;
+          known = s .known;
+        }
+
+    module _ (z : getD names (2 * getD map e 0 + x) 0 ≡ 0) where
+      -- no class has the key
+      fresh : (v : ℕ) → v < k → getD (s .lead) v 0 ≡ keyOf m p (endOf ends) old (s .from) → ⊥
+      fresh v h q = s .new (2 * getD map e 0 + x) z v h (q ∙ sym (at (s .from) (omega arith) (run .upto)))
+
+      -- the key takes the next class
+      pub splitting-new : (k ≡ classLimit → ⊥) → Splitting m p ends old (set names (2 * getD map e 0 + x) (k + 1)) (set map e k) (k + 1) (e + 1)
+      splitting-new ne = record {
+        last = s .last;
+        below = s .below;
+        names-size = length-set names key (k + 1) ∙ s .names-size;
+        map-size = length-set map e k ∙ s .map-size;
+        few = omega (arith, s .few);
+        from = e + 1;
+        upto = omega arith;
+        byte = omega (arith, r .byte);
+        passed = λ c h l. absurd (omega arith);
+        whole = whole;
+        ahead = later k;
+        lead = set (s .lead) k key;
+        leads = length-set (s .lead) k key ∙ s .leads;
+        numbered = numbered-on (numbered-new (s .numbered) (keyOf m p (endOf ends) old) (λ a. getD (set map e k) (endOf ends a) 0) (λ v. getD (set (s .lead) k key) v 0) (λ a h. refl) (kept k) other
+            (here k (s .from) (omega arith) (run .upto)) (own ∙ at (s .from) (omega arith) (run .upto)) refl fresh)
+            (e + 1) (omega (arith, run .upto)) (λ a h l. rw (here k a (omega arith) (omega arith)) (omega arith, own ∙ at a (omega arith) (omega arith)));
+        new = λ i q v h y. elim (ℕ-discrete i key) [
+          | yes d ↦ omega (arith, rw d at q, named)
+          | no d ↦ elim (split v k) [ inl l ↦ s .new i (sym (unnamed i d) ∙ q) v l (sym (other v l) ∙ y) | inr l ↦ (let t : v ≡ k = omega arith in d (sym (rw t at y) ∙ own)) ]
+        ];
+        known = λ i h. elim (ℕ-discrete i key) [
+          | yes d ↦ rw (d, named) (omega arith, own′)
+          | no d ↦ (let (most, q) = s .known i (λ y. h (unnamed i d ∙ y)) in
+              rw (unnamed i d) (omega arith, other (getD names i 0 - 1) (omega (arith, some i (λ y. h (unnamed i d ∙ y)))) ∙ q))
+        ];
       }
+        where
+          key : ℕ
+          key = 2 * getD map e 0 + x
 
-  module _ (z : getD names (2 * getD map b 0 + x) 0 ≡ 0) where
-    -- no class has the key
-    fresh : (v : ℕ) → v < k → getD (s .lead) v 0 ≡ keyOf m p byte old b → ⊥
-    fresh v h e = s .new (2 * getD map b 0 + x) z v h (e ∙ sym at)
+          room : key < length names
+          room = omega (arith, s .names-size, splitting-below, ex, bit-small m p e)
 
-    -- the key takes the next class
-    pub splitting-new : (k ≡ classLimit → ⊥) → Splitting m p byte old (set names (2 * getD map b 0 + x) (k + 1)) (set map b k) (k + 1) (b + 1)
-    splitting-new ne = record {
-      names-size = length-set names key (k + 1) ∙ s .names-size;
-      map-size = length-set map b k ∙ s .map-size;
-      few = omega (arith, s .few);
-      ahead = later k;
-      lead = set (s .lead) k key;
-      leads = length-set (s .lead) k key ∙ s .leads;
-      numbered = numbered-new (s .numbered) (keyOf m p byte old) (λ a. getD (set map b k) a 0) (λ v. getD (set (s .lead) k key) v 0) (λ a h. refl) (kept k) other (here k)
-          (last ∙ at) refl fresh;
-      new = λ i e v h y. elim (ℕ-discrete i key) [
-        | yes d ↦ omega (arith, rw d at e, named)
-        | no d ↦ elim (split v k) [ inl l ↦ s .new i (sym (unnamed i d) ∙ e) v l (sym (other v l) ∙ y) | inr l ↦ (let q : v ≡ k = omega arith in d (sym (rw q at y) ∙ last)) ]
-      ];
-      known = λ i h. elim (ℕ-discrete i key) [
-        | yes d ↦ rw (d, named) (omega arith, last′)
-        | no d ↦ (let (most, e) = s .known i (λ y. h (unnamed i d ∙ y)) in
-            rw (unnamed i d) (omega arith, other (getD names i 0 - 1) (omega (arith, some i (λ y. h (unnamed i d ∙ y)))) ∙ e))
-      ];
-    }
-      where
-        key : ℕ
-        key = 2 * getD map b 0 + x
+          named : getD (set names key (k + 1)) key 0 ≡ k + 1
+          named = getD-set-same names key (k + 1) 0 room
 
-        room : key < length names
-        room = omega (arith, s .names-size, splitting-below below s small, ex, bit-small m p (getD byte b 0))
+          unnamed : (i : ℕ) → (i ≡ key → ⊥) → getD (set names key (k + 1)) i 0 ≡ getD names i 0
+          unnamed i d = getD-set-other names key i (k + 1) 0 d
 
-        named : getD (set names key (k + 1)) key 0 ≡ k + 1
-        named = getD-set-same names key (k + 1) 0 room
+          own : getD (set (s .lead) k key) k 0 ≡ key
+          own = getD-set-same (s .lead) k key 0 (omega (arith, s .few, s .leads))
 
-        unnamed : (i : ℕ) → (i ≡ key → ⊥) → getD (set names key (k + 1)) i 0 ≡ getD names i 0
-        unnamed i d = getD-set-other names key i (k + 1) 0 d
+          own′ : getD (set (s .lead) k key) (k + 1 - 1) 0 ≡ key
+          own′ = let q : k + 1 - 1 ≡ k = omega arith in rw q own
 
-        last : getD (set (s .lead) k key) k 0 ≡ key
-        last = getD-set-same (s .lead) k key 0 (omega (arith, s .few, s .leads))
+          other : (v : ℕ) → v < k → getD (set (s .lead) k key) v 0 ≡ getD (s .lead) v 0
+          other v h = getD-set-other (s .lead) k v key 0 (λ q. omega arith)
 
-        last′ : getD (set (s .lead) k key) (k + 1 - 1) 0 ≡ key
-        last′ = let e : k + 1 - 1 ≡ k = omega arith in rw e last
+          some : (i : ℕ) → (getD names i 0 ≡ 0 → ⊥) → 0 < getD names i 0
+          some i h = omega arith
 
-        other : (v : ℕ) → v < k → getD (set (s .lead) k key) v 0 ≡ getD (s .lead) v 0
-        other v h = getD-set-other (s .lead) k v key 0 (λ e. omega arith)
+      -- a 65th class
+      pub splitting-full : k ≡ classLimit → Over classLimit (λ (a : ℕ). a < byteValues) (Key m p (endOf ends) old)
+      splitting-full q =
+          let came : (v : ℕ) → v < k → Came (keyOf m p (endOf ends) old) (λ a. getD map (endOf ends a) 0) (λ w. getD (s .lead) w 0) v (s .from) = λ v h. s .numbered .came v h (omega arith) in
+          rw q at (over-one (λ (a : ℕ). a < byteValues) (Key m p (endOf ends) old) k (λ v h. came v h .thing) (s .from) (λ v h. omega (arith, came v h .inside, s .byte)) (omega (arith, run .upto, run .byte))
+          (λ v w h l lt y. s .numbered .apart v w l lt (sym (came v h .leads) ∙ y ∙ came w l .leads)) (λ v h y. fresh v h (sym (came v h .leads) ∙ y)))
 
-        some : (i : ℕ) → (getD names i 0 ≡ 0 → ⊥) → 0 < getD names i 0
-        some i h = omega arith
-
-    -- a 65th class
-    pub splitting-full : k ≡ classLimit → Over classLimit (λ (a : ℕ). a < e) (Key m p byte old)
-    splitting-full q =
-        let came : (v : ℕ) → v < k → Came (keyOf m p byte old) (λ a. getD map a 0) (λ w. getD (s .lead) w 0) v b = λ v h. s .numbered .came v h (omega arith) in
-        rw q at (over-one (λ (a : ℕ). a < e) (Key m p byte old) k (λ v h. came v h .thing) b (λ v h. omega (arith, came v h .inside)) small
-        (λ v w h l lt y. s .numbered .apart v w l lt (sym (came v h .leads) ∙ y ∙ came w l .leads)) (λ v h y. fresh v h (sym (came v h .leads) ∙ y)))
-
--- all things
-pub splitting-all : {m : List ℕ} {p : ℕ} {byte old names map : List ℕ} {k b : ℕ}
-    → Splitting m p byte old names map k b → (e : ℕ) → b ≤ e → e ≤ b → Grouped (Key m p byte old) map k e
-splitting-all {b = b} s e h l =
-    let q : b ≡ e = omega arith in
+-- all bytes
+pub splitting-all : {m : List ℕ} {p : ℕ} {ends old names map : List ℕ} {k b : ℕ}
+    → byteValues ≤ b → Splitting m p ends old names map k b → Grouped (Key m p (endOf ends) old) (endOf ends) map k
+splitting-all {ends = ends} {b = b} h s =
+    let q : s .from ≡ byteValues = elim (split (s .from) byteValues) [
+      | inl l ↦ omega (arith, before-last ends (s .from) b (s .last) l (s .passed))
+      | inr l ↦ omega (arith, s .byte)
+    ] in
     let n = rw q at (s .numbered) in
     record {
       size = s .map-size;
@@ -185,62 +256,82 @@ splitting-all {b = b} s e h l =
 
 -- ---- the loop over the positions
 
--- the keys split the classes by one position
-pub like-key : (m : List ℕ) (p : ℕ) (byte old : List ℕ) (k e : ℕ) → Grouped (By (Like m p) byte) old k e → (a b : ℕ) → a < e → b < e
-    → Key m p byte old a b ↔ By (Like m (p + 1)) byte a b
-like-key m p byte old k e g a b ha hb =
-    let x = getD byte a 0 in
-    let y = getD byte b 0 in (
-      λ e. below-more (λ (q : ℕ). bitAt m q x ≡ bitAt m q y) p
-          (g .classes .same a b ha hb .0 (omega (arith, bit-small m p x, bit-small m p y))) (omega (arith, bit-small m p x, bit-small m p y)),
-      λ l. ap₂ (λ (x y : ℕ). 2 * x + y) (g .classes .same a b ha hb .1 (λ q h. l q (omega arith))) (l p (omega arith)),
-    )
-
 met-zeros : (n : ℕ) (f : ℕ → ℕ) → ((b : ℕ) → f b ≡ 0) → met f 0 (suc n) ≡ 1
 unfolding met
 met-zeros zero f e = rw e
 met-zeros (suc n) f e = omega (arith, met-zeros n f e, e (suc n))
 
 -- no position: one class
-pub group-none : (m byte : List ℕ) (e : ℕ) → 0 < e → Grouped (By (Like m 0) byte) (replicate byteValues 0) 1 e
-group-none m byte e some =
-    let q : suc (e - 1) ≡ e = omega arith in
-    record {
-      size = length-replicate {A = ℕ} byteValues 0;
-      few = omega arith;
-      classes = record {
-        same = λ a b h l. ((λ x p z. absurd (omega arith)), λ x. zeros byteValues a ∙ sym (zeros byteValues b));
-        smallest = λ a h. omega (arith, zeros byteValues a);
-        count = rw q at (met-zeros (e - 1) (λ b. getD (replicate byteValues 0) b 0) (zeros byteValues));
-      };
-    }
+pub group-none : (m : List ℕ) (at : ℕ → ℕ) → Grouped (Like m 0) at (replicate byteValues 0) 1
+group-none m at = record {
+  size = length-replicate {A = ℕ} byteValues 0;
+  few = omega arith;
+  classes = record {
+    same = λ a b h l. ((λ x p z. absurd (omega arith)), λ x. zeros byteValues (at a) ∙ sym (zeros byteValues (at b)));
+    smallest = λ a h. omega (arith, zeros byteValues (at a));
+    count = met-zeros lastByte (λ b. getD (replicate byteValues 0) (at b) 0) (λ b. zeros byteValues (at b));
+  };
+}
 
-module _ (m byte : List ℕ) {p : ℕ} {old : List ℕ} {k e : ℕ} (g : Grouped (By (Like m p) byte) old k e) where
-  -- the classes of a map are below 64
-  pub group-below : ClassesBelow old e
-  group-below b h = omega (arith, class-below (g .classes) b h, g .few)
+-- the classes of a map are below 64
+pub group-below : {R : ℕ → ℕ → Type 0} {at : ℕ → ℕ} {map : List ℕ} {k : ℕ} → Grouped R at map k → ClassesBelow at map
+group-below g b h = omega (arith, class-below (g .classes) b h, g .few)
 
-  module _ (map : List ℕ) {r : Counted} (a : GroupAnswer (Key m p byte old) map e r) where
+-- each position holds both a byte and the one where its class stands, or neither
+module _ (m : List ℕ) (n : ℕ) (at : ℕ → ℕ) (like : (b : ℕ) → b < byteValues → Like m n b (at b)) {p : ℕ} (h : p < n) {old : List ℕ} {k : ℕ}
+    (g : Grouped (Like m p) at old k) where
+  -- the keys split the classes by one position
+  pub like-key : (a b : ℕ) → a < byteValues → b < byteValues → Key m p at old a b ↔ Like m (p + 1) a b
+  like-key a b ha hb =
+      let x = bit-small m p (at a) in
+      let y = bit-small m p (at b) in (
+        λ e. below-more (λ (q : ℕ). bitAt m q a ≡ bitAt m q b) p (g .classes .same a b ha hb .0 (omega arith)) (like a ha p h ∙ omega arith ∙ sym (like b hb p h)),
+        λ l. ap₂ (λ (x y : ℕ). 2 * x + y) (g .classes .same a b ha hb .1 (λ q w. l q (omega arith))) (sym (like a ha p h) ∙ l p (omega arith) ∙ like b hb p h),
+      )
+
+  module _ (map : List ℕ) {r : Counted} (a : GroupAnswer (Key m p at old) at map r) where
     -- a position more
-    pub group-next : (n : ℕ) → r ≡ Few n → Grouped (By (Like m (p + 1)) byte) map n e
-    group-next n y =
-        let d = subst (GroupAnswer (Key m p byte old) map e) y a in
+    pub group-next : (c : ℕ) → r ≡ Few c → Grouped (Like m (p + 1)) at map c
+    group-next c y =
+        let d = subst (GroupAnswer (Key m p at old) at map) y a in
         record {
           size = d .size;
           few = d .few;
           classes = record {
-            same = λ a b h l. (let (there, back) = like-key m p byte old k e g a b h l in let (u, v) = d .classes .same a b h l in ((λ x. there (u x)), λ x. v (back x)));
+            same = λ a b h l. (let (there, back) = like-key a b h l in let (u, v) = d .classes .same a b h l in ((λ x. there (u x)), λ x. v (back x)));
             smallest = d .classes .smallest;
             count = d .classes .count;
           };
         }
 
-    -- 65 things whose bytes a position tells apart: their bytes stay so
-    pub group-many : (n : ℕ) → p < n → Listed byte e → r ≡ Many → Over classLimit (λ (b : ℕ). b < byteValues) (Like m n)
-    group-many n h l y =
-        let o = subst (GroupAnswer (Key m p byte old) map e) y a in
+    -- 65 bytes that a position tells apart stay so
+    pub group-many : r ≡ Many → Over classLimit (λ (b : ℕ). b < byteValues) (Like m n)
+    group-many y =
+        let o = subst (GroupAnswer (Key m p at old) at map) y a in
         record {
-          thing = λ i. getD byte (o .thing i) 0;
-          have = λ i z. l .byte (o .thing i) (o .have i z);
-          differ = λ i j l z x. o .differ i j l z (like-key m p byte old k e g (o .thing i) (o .thing j) (o .have i (omega arith)) (o .have j z) .1 (λ q w. x q (omega arith)));
+          thing = o .thing;
+          have = o .have;
+          differ = λ i j l z x. o .differ i j l z (like-key (o .thing i) (o .thing j) (o .have i (omega arith)) (o .have j z) .1 (λ q w. x q (omega arith)));
         }
+
+-- ---- spread
+
+-- the bytes of one run more
+pub spread-more : {ends old map map′ : List ℕ} {from e : ℕ} → isEnd ends lastByte ≡ true → RunEnd ends from e → Stored old map 0 from (λ b. getD old (endOf ends b) 0)
+    → Stored map map′ from (e + 1) (λ b. getD map e 0) → Stored old map′ 0 (e + 1) (λ b. getD old (endOf ends b) 0)
+spread-more {ends} {e = e} last r s t =
+    stored-then (omega arith) (omega (arith, r .upto)) s t (λ i h l. rw (end-inside ends last r i l (omega arith)) (s .outside e (inr (r .upto))))
+
+-- each byte has the class that stood elsewhere
+pub group-spread : {R : ℕ → ℕ → Type 0} {at : ℕ → ℕ} {old map : List ℕ} {k : ℕ} → Grouped R at old k → Stored old map 0 byteValues (λ b. getD old (at b) 0) → Grouped R ownPlace map k
+group-spread {at = at} {old} {map} g s =
+    let e : (b : ℕ) → b < byteValues → getD map b 0 ≡ getD old (at b) 0 = λ b h. s .inside b h (omega arith) in
+    record {
+      size = s .size ∙ g .size;
+      few = g .few;
+      classes = record {
+        same = λ a b h l. (let (u, v) = g .classes .same a b h l in ((λ q. u (sym (e a h) ∙ q ∙ e b l)), λ x. e a h ∙ v x ∙ sym (e b l)));
+        smallest = arrival-ext (λ b. getD old (at b) 0) (λ b. getD map b 0) 0 byteValues (λ b h. sym (e b h)) (g .classes .smallest);
+        count = met-same (λ b. getD map b 0) (λ b. getD old (at b) 0) byteValues e ∙ g .classes .count;
+      };
+    }

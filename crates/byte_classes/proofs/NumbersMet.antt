@@ -1,23 +1,22 @@
 -- Numbers in use, and one thing too many.
---   met-next, met-used, met-least: one number more is read; a number in use was read; a bound of what was read
+--   met-used, met-least: a number in use was read; a bound of what was read
+--   met-same, met-run: two functions that read the same; one number is read several times
+--   numbered-on: more things with numbers that are given
 --   numbered-met: where things are numbered, so many numbers were read
 --   over-one: n things of which no two are alike, and one more, are more than n
 --   within-all: things one of which is like each are at most as many as they are
 use Prim.Native.Nat.{ℕ, zero, suc, _+_, _-_, _≤_, _<_, max}
-use mathlib.Core.Path.{_≡_}
+use mathlib.Core.Path.{_≡_, refl}
 use mathlib.Core.Logic.{_⊎_, inl, inr}
 use native.Mathlib.Numerals.{add-one}
 use native.Mathlib.Omega.{arith}
+use native.Mathlib.Decide.{le-ind}
 use Rattle.scope.specs.Machines.Canonical.{met, Arrival}
 use Rattle.scope.specs.Count.{Over, Within}
 use Rattle.scope.proofs.Counting.Arrival.{met-above}
 use Rattle.scope.proofs.Counting.Tests.{split}
 use Rattle.buffers.specs.Numbered.{Numbered}
-
--- one number more
-pub met-next : (f : ℕ → ℕ) (x : ℕ) → met f 0 (x + 1) ≡ max (met f 0 x) (f x + 1)
-unfolding met
-met-next f x = rw (add-one x, add-one (f x))
+use Rattle.buffers.proofs.Numbered.{numbered-old}
 
 -- a number in use was read
 pub met-used : (f : ℕ → ℕ) (x c : ℕ) → Arrival f 0 x → c < met f 0 x → (y : ℕ) × (y < x) × (f y ≡ c)
@@ -33,6 +32,25 @@ pub met-least : (f : ℕ → ℕ) (x v : ℕ) → ((y : ℕ) → y < x → f y <
 unfolding met
 met-least f zero v h = omega arith
 met-least f (suc x) v h = omega (arith, met-least f x v (λ y l. h y (omega arith)), h x (omega arith))
+
+-- functions that read the same numbers
+pub met-same : (f g : ℕ → ℕ) (x : ℕ) → ((y : ℕ) → y < x → f y ≡ g y) → met f 0 x ≡ met g 0 x
+unfolding met
+met-same f g zero e = refl
+met-same f g (suc x) e = rw (met-same f g x (λ y h. e y (omega arith)), e x (omega arith))
+
+-- from x up to y one number is read
+pub met-run : (f : ℕ → ℕ) (x y v : ℕ) → x < y → ((b : ℕ) → b < y → x ≤ b → f b ≡ v) → met f 0 y ≡ max (met f 0 x) (v + 1)
+unfolding met
+met-run f x y v h = le-ind (λ (z : ℕ). ((b : ℕ) → b < z → x ≤ b → f b ≡ v) → met f 0 z ≡ max (met f 0 x) (v + 1)) (λ e. omega (arith, e x (omega arith) (omega arith)))
+    (λ z l go e. omega (arith, go (λ b k w. e b (omega arith) w), e z (omega arith) (omega arith))) y h
+
+-- the things from a up to b have numbers that are given
+pub numbered-on : {R : ℕ → ℕ → Type 0} {key number lead : ℕ → ℕ} {from k a : ℕ} → Numbered R key number lead from k a → (b : ℕ) → a ≤ b
+    → ((x : ℕ) → x < b → a ≤ x → (number x < k) × R (lead (number x)) (key x)) → Numbered R key number lead from k b
+numbered-on {R} {key} {number} {lead} {from} {k} {a} n b h =
+    le-ind (λ (z : ℕ). ((x : ℕ) → x < z → a ≤ x → (number x < k) × R (lead (number x)) (key x)) → Numbered R key number lead from k z) (λ f. n)
+    (λ z l go f. rw add-one at (numbered-old (go (λ x w y. f x (omega arith) y)) key number lead (λ x y. refl) (λ x y. refl) (λ v y. refl) (f z (omega arith) l .0) (f z (omega arith) l .1))) b h
 
 -- so many numbers were read as were given
 pub numbered-met : {R : ℕ → ℕ → Type 0} {key number lead : ℕ → ℕ} {k e : ℕ} → Numbered R key number lead 0 k e → met number 0 e ≡ k

@@ -5,7 +5,7 @@ ghost use lib.ListN.{length};
 ghost use Rattle.scope.specs.Limits.{byteValues, positionLimit};
 ghost use Rattle.sets.specs.Value.{setValue};
 ghost use Rattle.sets.specs.Layout.{byteSet};
-ghost use Rattle.byte_classes.specs.Group.{Grouped};
+ghost use Rattle.byte_classes.specs.Group.{ownPlace, Grouped};
 ghost use Rattle.byte_runs.specs.Runs.{RunsOf, Like};
 ghost use Rattle.byte_classes.specs.Masks.{maskOf, Masked};
 use byte_runs::END_WORDS;
@@ -35,6 +35,9 @@ pub fn class_masks(
     ends: [u64; END_WORDS],
     map: [u8; Machine::BYTES],
 ) -> [u64; Machine::CLASSES * Machine::SET_WORDS]
+    requires { ⌜ (count ≤ positionLimit) × (count * byteSet ≤ length (now bytes)) ⌝ }
+    requires { ⌜ RunsOf (Like (now bytes) count) ends × ((k : ℕ) × Grouped (Like (now bytes) count) ownPlace map k) ⌝ }
+    ensures { λ r. ⌜ Masked (now (bytes .entry)) count map r byteValues ⌝ }
 {
     let mut masks = [0u64; Machine::CLASSES * Machine::SET_WORDS];
     let mut n: usize = 0;

@@ -205,8 +205,12 @@ module _ {ends : List ℕ} {w rest b : ℕ} (r : Rest ends w rest b) where
 
     -- the lowest stands in the word
     pub rest-in : b + trailingZeros 64 rest < 64 * w + 64
-    rest-in = omega (arith, r .from, has-small (getD ends w 0) (b - 64 * w + trailingZeros 64 rest) 64
-        (sym (has-shr (getD ends w 0) (b - 64 * w) (trailingZeros 64 rest)) ∙ rw (← r .left) lowest) small)
+    rest-in = omega (
+      arith,
+      r .from,
+      has-small (getD ends w 0) (b - 64 * w + trailingZeros 64 rest) 64
+          (sym (has-shr (getD ends w 0) (b - 64 * w) (trailingZeros 64 rest)) ∙ rw (← r .left) lowest) small,
+    )
 
     -- it is the next end
     pub rest-end : 64 * w + 64 ≤ byteValues → RunEnd ends b (b + trailingZeros 64 rest)

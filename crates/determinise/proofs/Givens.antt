@@ -31,7 +31,7 @@ use Rattle.buffers.proofs.OneMore.{part-all}
 use Rattle.sets.specs.Layout.{held, imageAt}
 use Rattle.sets.proofs.HeldBits.{bits-same}
 use Rattle.byte_runs.specs.Runs.{Like}
-use Rattle.byte_classes.specs.Group.{Grouped, GroupAnswer}
+use Rattle.byte_classes.specs.Group.{ownPlace, Grouped, GroupAnswer}
 use Rattle.byte_classes.specs.Masks.{maskOf, Masked}
 use Rattle.byte_classes.specs.declared.Counted.{Counted}
 use Rattle.byte_classes.specs.declared.Counted.the-variants.{Few, Many}
@@ -76,7 +76,7 @@ module _ (e : Re) (bytes words : List ℕ) (count last : ℕ) (null : Bool) (g :
     differ = λ i j l k x. o .differ i j l k (like-share (o .thing i) (o .thing j) (o .have i (omega arith)) (o .have j k) .1 x);
   }
 
-  module _ (map : List ℕ) (k : ℕ) (c : Grouped (Like bytes count) map k byteValues) where
+  module _ (map : List ℕ) (k : ℕ) (c : Grouped (Like bytes count) ownPlace map k) where
     -- each byte is like the first of its class
     pub few-classes : FewClasses e
     few-classes =
@@ -96,7 +96,7 @@ module _ (e : Re) (bytes words : List ℕ) (count last : ℕ) (null : Bool) (g :
     }
 
 -- the classes of a grouping
-pub mapped : {R : ℕ → ℕ → Type 0} {map : List ℕ} {k : ℕ} → Grouped R map k byteValues → ClassMap map k
+pub mapped : {R : ℕ → ℕ → Type 0} {map : List ℕ} {k : ℕ} → Grouped R ownPlace map k → ClassMap map k
 mapped c = record {
   some = omega (arith, class-below (c .classes) 0 (omega arith));
   few = c .few;
@@ -130,11 +130,11 @@ module _ (a n : ℕ) (s ys : List ℕ) (h : a ≤ length s) (t : TailKept n (tak
 -- ---- the answer
 
 module _ {bytes words : List ℕ} (count last : ℕ) (null : Bool) (map : List ℕ) {c : Counted} (few : count ≤ positionLimit) (long : Scratch bytes words)
-    (a : GroupAnswer (Like bytes count) map byteValues c) where
+    (a : GroupAnswer (Like bytes count) ownPlace map c) where
   -- too many classes
   pub built-classes : c ≡ Many → Builds bytes words count last null bytes words Classes
   built-classes y = record {
-    outcome = λ e g. many-classes e bytes words count last null g (subst (GroupAnswer (Like bytes count) map byteValues) y a);
+    outcome = λ e g. many-classes e bytes words count last null g (subst (GroupAnswer (Like bytes count) ownPlace map) y a);
     bytes-kept = all-kept _ _;
     words-kept = all-kept _ _;
   }
@@ -143,8 +143,8 @@ module _ {bytes words : List ℕ} (count last : ℕ) (null : Bool) (map : List �
   module _ {k : ℕ} {masks : List ℕ} {finals : ℕ} {ys words′ : List ℕ} {r : Built} (y : c ≡ Few k) (m : Masked bytes count map masks byteValues)
       (f : finals ≡ bitOr last (given null 1))
       (x : ImageAnswer (take (length bytes - imageAt) (drop imageAt bytes)) words masks map finals ys words′ r) where
-    groups : Grouped (Like bytes count) map k byteValues
-    groups = subst (GroupAnswer (Like bytes count) map byteValues) y a
+    groups : Grouped (Like bytes count) ownPlace map k
+    groups = subst (GroupAnswer (Like bytes count) ownPlace map) y a
 
     within : imageAt ≤ length bytes
     within = omega (arith, long .bytes-long)

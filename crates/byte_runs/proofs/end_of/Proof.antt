@@ -18,26 +18,8 @@ Inv-loop b ends x₀ rest₀ x rest = (b ≤ x) × (x < byteValues) × NoEnd end
 abbrev μ-loop : tie.MeasureT-loop
 μ-loop b ends x₀ rest₀ x rest = byteValues - x
 
-mul-rest : tie.Need-mul-rest Inv-loop μ-loop
-mul-rest c = search needs
-
-array-read-rest : tie.Need-array-read-rest Inv-loop μ-loop
-array-read-rest c = search needs
-
-shr-rest : tie.Need-shr-rest Inv-loop μ-loop
-shr-rest c = search needs
-
 loop-holds : tie.Need-loop-holds Inv-loop μ-loop
 loop-holds c = (search needs, search needs, λ x h k. absurd (omega arith), rest-at _ _)
-
-sub-x : tie.Need-sub-x Inv-loop μ-loop
-sub-x c = search needs
-
-add-x : tie.Need-add-x Inv-loop μ-loop
-add-x c = search needs
-
-mul-rest-2 : tie.Need-mul-rest-2 Inv-loop μ-loop
-mul-rest-2 c = search needs
 
 -- the word is passed
 passed : (c : tie.In-loop Inv-loop μ-loop) → NoEnd (c .before .before .args .t1) (c .before .before .args .b) (c .before .loop .x + (64 - c .before .loop .x % 64))
@@ -74,13 +56,13 @@ end-of-spec =
     (tie.spec
     Inv-loop
     μ-loop
-    mul-rest
-    array-read-rest
-    shr-rest
+    (λ c. search needs)
+    (λ c. search needs)
+    (λ c. search needs)
     loop-holds
-    sub-x
-    add-x
-    mul-rest-2
+    (λ c. search needs)
+    (λ c. search needs)
+    (λ c. search needs)
     array-read-rest-2
     (λ c. search needs)
     loop-again

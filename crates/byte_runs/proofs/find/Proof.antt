@@ -13,26 +13,8 @@ Inv-loop bytes count ends₀ p₀ ends p = (p ≤ count) × Quiet bytes p ends
 abbrev μ-loop : tie.MeasureT-loop
 μ-loop bytes count ends₀ p₀ ends p = count - p
 
-sub-ends : tie.Need-sub-ends Inv-loop μ-loop
-sub-ends c = search needs
-
-mul-ends : tie.Need-mul-ends Inv-loop μ-loop
-mul-ends c = search needs
-
-array-write-ends : tie.Need-array-write-ends Inv-loop μ-loop
-array-write-ends c = search needs
-
 loop-holds : tie.Need-loop-holds Inv-loop μ-loop
 loop-holds c = (search needs, quiet-none _ _ refl)
-
-note-requires : tie.Need-note-requires Inv-loop μ-loop
-note-requires c κs = search needs
-
-add-p : tie.Need-add-p Inv-loop μ-loop
-add-p c = search needs
-
-loop-less : tie.Need-loop-less Inv-loop μ-loop
-loop-less c = search needs
 
 loop-again : tie.Need-loop-again Inv-loop μ-loop
 loop-again c = (search needs, quiet-more (c .before .before .loop .inv .1) (c .note .ensures))
@@ -46,12 +28,12 @@ find-spec =
     (tie.spec
     Inv-loop
     μ-loop
-    sub-ends
-    mul-ends
-    array-write-ends
+    (λ c. search needs)
+    (λ c. search needs)
+    (λ c. search needs)
     loop-holds
-    note-requires
-    add-p
-    loop-less
+    (λ c κs. search needs)
+    (λ c. search needs)
+    (λ c. search needs)
     loop-again
     returns)

@@ -20,50 +20,8 @@ abbrev μ-loop : tie.MeasureT-loop
 loop-holds : tie.Need-loop-holds Inv-loop μ-loop
 loop-holds c = (search needs, search needs, noted-none _ _ _ _)
 
-mul-at : tie.Need-mul-at Inv-loop μ-loop
-mul-at c = search needs
-
-mul-at-2 : tie.Need-mul-at-2 Inv-loop μ-loop
-mul-at-2 c = search needs
-
-add-at : tie.Need-add-at Inv-loop μ-loop
-add-at c = search needs
-
-word-requires : tie.Need-word-requires Inv-loop μ-loop
-word-requires c κs = search needs
-
-add-y : tie.Need-add-y Inv-loop μ-loop
-add-y c = search needs
-
-shared-slice-read-y : tie.Need-shared-slice-read-y Inv-loop μ-loop
-shared-slice-read-y c = search needs
-
 cast-y : tie.Need-cast-y Inv-loop μ-loop
 cast-y c = let l = c .before .before .before in omega (arith, c .shared-slice-known2 .given (l .before .before .args .p * byteSet + 8 * l .loop .w + 8))
-
-mul-noted : tie.Need-mul-noted Inv-loop μ-loop
-mul-noted c = search needs
-
-array-read-noted : tie.Need-array-read-noted Inv-loop μ-loop
-array-read-noted c = search needs
-
-mul-noted-2 : tie.Need-mul-noted-2 Inv-loop μ-loop
-mul-noted-2 c = search needs
-
-add-noted : tie.Need-add-noted Inv-loop μ-loop
-add-noted c = search needs
-
-mul-noted-3 : tie.Need-mul-noted-3 Inv-loop μ-loop
-mul-noted-3 c = search needs
-
-array-write-noted : tie.Need-array-write-noted Inv-loop μ-loop
-array-write-noted c = search needs
-
-add-w : tie.Need-add-w Inv-loop μ-loop
-add-w c = search needs
-
-loop-less : tie.Need-loop-less Inv-loop μ-loop
-loop-less c = search needs
 
 loop-again : tie.Need-loop-again Inv-loop μ-loop
 loop-again c = let l = c .before .before .before in (search needs, search needs, noted-more (l .loop .w) (l .loop .inv .2) (omega (arith, l .loop .inv .1)) (c .before .word .ensures) (omega arith))
@@ -78,20 +36,20 @@ note-spec =
     Inv-loop
     μ-loop
     loop-holds
-    mul-at
-    mul-at-2
-    add-at
-    word-requires
-    add-y
-    shared-slice-read-y
+    (λ c. search needs)
+    (λ c. search needs)
+    (λ c. search needs)
+    (λ c κs. search needs)
+    (λ c. search needs)
+    (λ c. search needs)
     cast-y
-    mul-noted
-    array-read-noted
-    mul-noted-2
-    add-noted
-    mul-noted-3
-    array-write-noted
-    add-w
-    loop-less
+    (λ c. search needs)
+    (λ c. search needs)
+    (λ c. search needs)
+    (λ c. search needs)
+    (λ c. search needs)
+    (λ c. search needs)
+    (λ c. search needs)
+    (λ c. search needs)
     loop-again
     returns)

@@ -15,26 +15,17 @@ abbrev μ-loop : tie.MeasureT-loop
 loop-holds : tie.Need-loop-holds Inv-loop μ-loop
 loop-holds c = joining-none _ _
 
-sub-i : tie.Need-sub-i Inv-loop μ-loop
-sub-i c = search needs
-
 mul-x : tie.Need-mul-x Inv-loop μ-loop
 mul-x c = omega (arith, joining-fits (c .before .loop .i - 1) (omega arith) (c .before .loop .inv))
 
 add-x : tie.Need-add-x Inv-loop μ-loop
 add-x c = omega (arith, c .before .loop .inv .few)
 
-shared-slice-read-x : tie.Need-shared-slice-read-x Inv-loop μ-loop
-shared-slice-read-x c = search needs
-
 cast-x : tie.Need-cast-x Inv-loop μ-loop
 cast-x c = omega (arith, c .shared-slice-known .given (c .before .before .before .args .at + (c .before .before .loop .i - 1)))
 
 add-x-2 : tie.Need-add-x-2 Inv-loop μ-loop
 add-x-2 c = omega (arith, c .shared-slice-known .given (c .before .before .before .args .at + (c .before .before .loop .i - 1)), joining-fits (c .before .before .loop .i - 1) (omega arith) (c .before .before .loop .inv))
-
-loop-less : tie.Need-loop-less Inv-loop μ-loop
-loop-less c = search needs
 
 loop-again : tie.Need-loop-again Inv-loop μ-loop
 loop-again c = joining-more (c .before .before .loop .i - 1) (omega arith) (c .before .before .loop .inv) (omega (arith, c .shared-slice-known .given (c .before .before .before .args .at + (c .before .before .loop .i - 1))))
@@ -49,12 +40,12 @@ word-spec =
     Inv-loop
     μ-loop
     loop-holds
-    sub-i
+    (λ c. search needs)
     mul-x
     add-x
-    shared-slice-read-x
+    (λ c. search needs)
     cast-x
     add-x-2
-    loop-less
+    (λ c. search needs)
     loop-again
     returns)

@@ -1,80 +1,163 @@
--- The invariant: the keys of the things below i are named by first arrival, and the table has their names (`Splitting`).
-use Prim.Native.Nat.{_-_, _≤_}
+-- The invariant: the keys of the runs that end before a word, and in it before `at`, are named by first arrival, and the table has their names (`Splitting`). The inner loop
+-- says it as what is carried over from where it began.
+use Prim.Native.Nat.{ℕ, _+_, _-_, _*_, _^_, _≤_, _<_}
+use mathlib.Core.Path.{_≡_}
+use mathlib.Core.List.{List}
 use mathlib.Core.Logic.{⊎-elim}
 use native.Mathlib.Omega.{arith}
 use borrow.Author.Needs.{needs}
-use Rattle.byte_classes.proofs.Classes.{Splitting, splitting-none, splitting-below, splitting-old, splitting-new, splitting-full, splitting-all}
+use mir.Syntax.{w64}
+use mir.Val.{Fits}
+use lib.Count.{trailingZeros}
+use lib.ListN.{getD}
+use Rattle.scope.specs.Limits.{byteValues, classLimit}
+use Rattle.byte_runs.specs.Runs.{RunEnd}
+use Rattle.byte_runs.proofs.Ends.{Rest, rest-start, rest-in, rest-end, rest-next, rest-none}
+use Rattle.byte_classes.proofs.Classes.{Splitting, splitting-none, splitting-pass, splitting-below, splitting-old, splitting-new, splitting-full, splitting-all}
 use Rattle.byte_classes.proofs.group.split.Statement.{statement}
 use Rattle.byte_classes.proofs.group.split.Tie as tie
 
+abbrev Inv-loop2 : tie.InvT-loop2
+Inv-loop2 bytes p map₀ ends names₀ k₀ w rest₀ at₀ map names k rest at = Rest ends w rest at × ((old : List ℕ) → Splitting bytes p ends old names₀ map₀ k₀ (64 * w) → Splitting bytes p ends old names map k at)
+
+abbrev μ-loop2 : tie.MeasureT-loop2
+μ-loop2 bytes p map₀ ends names₀ k₀ w rest₀ at₀ map names k rest at = 64 * w + 64 - at
+
 abbrev Inv-loop : tie.InvT-loop
-Inv-loop bytes p byte count class₀ names₀ k₀ i₀ class names k i = (i ≤ count) × Splitting bytes p byte class₀ names class k i
+Inv-loop bytes p map₀ ends names₀ k₀ w₀ map names k w = (64 * w ≤ byteValues) × Splitting bytes p ends map₀ names map k (64 * w)
 
 abbrev μ-loop : tie.MeasureT-loop
-μ-loop bytes p byte count class₀ names₀ k₀ i₀ class names k i = count - i
+μ-loop bytes p map₀ ends names₀ k₀ w₀ map names k w = byteValues - 64 * w
 
-loop-holds : tie.Need-loop-holds Inv-loop μ-loop
-loop-holds c = (search needs, splitting-none _ _ _ _ (c .before .pre .1 .1))
+loop-holds : tie.Need-loop-holds Inv-loop2 μ-loop2 Inv-loop μ-loop
+loop-holds c = (search needs, splitting-none _ _ _ _ (c .before .pre .1 .0) (c .before .pre .1 .1) (c .before .pre .1 .2))
 
-cast-key : tie.Need-cast-key Inv-loop μ-loop
-cast-key c = omega (arith, splitting-below (c .before .before .before .before .pre .1 .2) (c .before .before .loop .inv .1) (c .before .loop-test .taken))
+loop2-holds : tie.Need-loop2-holds Inv-loop2 μ-loop2 Inv-loop μ-loop
+loop2-holds c = (rest-start _ _, λ old s. s)
 
-mul-key : tie.Need-mul-key Inv-loop μ-loop
-mul-key c = omega (arith, splitting-below (c .before .before .before .before .pre .1 .2) (c .before .before .loop .inv .1) (c .before .loop-test .taken))
+-- a word fits
+fits : (c : tie.In-loop2 Inv-loop2 μ-loop2 Inv-loop μ-loop) → getD (c .before .before .before .before .before .args .t3) (c .before .before .before .loop .w) 0 < 2 ^ 64
+fits c = let fit : Fits w64 (getD (c .before .before .before .before .before .args .t3) (c .before .before .before .loop .w) 0) = search needs in fit .fits
 
-cast-bit : tie.Need-cast-bit Inv-loop μ-loop
-cast-bit c = omega (arith, c .before .before .before .before .before .pre .1 .0 .byte (c .before .before .before .loop .i) (c .before .before .loop-test .taken))
+-- the lowest bit of the rest is the next end
+found : (c : tie.In-loop2 Inv-loop2 μ-loop2 Inv-loop μ-loop) → RunEnd (c .before .before .before .before .before .args .t3) (c .before .loop2 .at) (c .before .loop2 .at + trailingZeros 64 (c .before .loop2 .rest))
+found c = rest-end (c .before .loop2 .inv .0) (fits c) (c .loop2-test .taken) (omega (arith, c .before .before .loop-test .taken))
 
-bit-requires : tie.Need-bit-requires Inv-loop μ-loop
-bit-requires c κs = (c .before .before .before .before .before .pre .1 .0 .byte (c .before .before .before .loop .i) (c .before .before .loop-test .taken), search needs)
+-- it stands in the word
+inside : (c : tie.In-loop2 Inv-loop2 μ-loop2 Inv-loop μ-loop) → c .before .loop2 .at + trailingZeros 64 (c .before .loop2 .rest) < 64 * c .before .before .before .loop .w + 64
+inside c = rest-in (c .before .loop2 .inv .0) (fits c) (c .loop2-test .taken)
 
-add-key : tie.Need-add-key Inv-loop μ-loop
-add-key c = omega (arith, splitting-below (c .before .before .before .before .before .before .pre .1 .2) (c .before .before .before .before .loop .inv .1) (c .before .before .before .loop-test .taken))
+-- what is split so far
+so-far : (c : tie.In-loop2 Inv-loop2 μ-loop2 Inv-loop μ-loop) → Splitting (c .before .before .before .before .before .args .bytes .now) (c .before .before .before .before .before .args .p) (c .before .before .before .before .before .args .t3) (c .before .before .before .before .before .args .map .now) (c .before .loop2 .names) (c .before .loop2 .map) (c .before .loop2 .k) (c .before .loop2 .at)
+so-far c = c .before .loop2 .inv .1 _ (c .before .before .before .loop .inv .1)
 
-array-read-name : tie.Need-array-read-name Inv-loop μ-loop
-array-read-name c = omega (arith, splitting-below (c .before .before .before .before .before .before .pre .1 .2) (c .before .before .before .before .loop .inv .1) (c .before .before .before .loop-test .taken))
+-- a class is below 64
+small : (c : tie.In-loop2 Inv-loop2 μ-loop2 Inv-loop μ-loop) → getD (c .before .loop2 .map) (c .before .loop2 .at + trailingZeros 64 (c .before .loop2 .rest)) 0 < classLimit
+small c = splitting-below (so-far c) (found c)
 
-returns : tie.Need-returns Inv-loop μ-loop
-returns c = let l = c .before .before .before .before .before .before in let p = l .before .before .pre .1 in splitting-full (p .0 .few) (p .2) (l .loop .inv .1) (c .before .before .before .before .before .loop-test .taken) (c .before .before .bit .ensures .0) (c .before .if1 .taken) (c .if2 .taken)
+cast-zeros : tie.Need-cast-zeros Inv-loop2 μ-loop2 Inv-loop μ-loop
+cast-zeros c = omega (arith, inside c)
 
-array-write-names : tie.Need-array-write-names Inv-loop μ-loop
-array-write-names c = omega (arith, splitting-below (c .before .before .before .before .before .before .before .before .pre .1 .2) (c .before .before .before .before .before .before .loop .inv .1) (c .before .before .before .before .before .loop-test .taken))
+add-b : tie.Need-add-b Inv-loop2 μ-loop2 Inv-loop μ-loop
+add-b c = omega (arith, found c .byte)
 
-loop-again : tie.Need-loop-again Inv-loop μ-loop
-loop-again c = let l = c .before .before .before .before .before in
-    let p = l .before .before .pre .1 in (
-      search needs,
-      ⊎-elim
-          (λ w. rw (w .2, w .3, w .4) (splitting-new (p .0 .few) (p .2) (l .loop .inv .1) (c .before .before .before .before .loop-test .taken) (c .before .bit .ensures .0) (w .0 .taken) (w .1 .left)))
-          (λ w. rw (w .1, w .2, w .3) (splitting-old (p .0 .few) (p .2) (l .loop .inv .1) (c .before .before .before .before .loop-test .taken) (c .before .bit .ensures .0) (w .0 .left))) (c .if1 .came),
+element-copy-out-key : tie.Need-element-copy-out-key Inv-loop2 μ-loop2 Inv-loop μ-loop
+element-copy-out-key c = omega (arith, found c .byte)
+
+cast-key : tie.Need-cast-key Inv-loop2 μ-loop2 Inv-loop μ-loop
+cast-key c = omega (arith, small (c .before))
+
+mul-key : tie.Need-mul-key Inv-loop2 μ-loop2 Inv-loop μ-loop
+mul-key c = omega (arith, small (c .before))
+
+bit-requires : tie.Need-bit-requires Inv-loop2 μ-loop2 Inv-loop μ-loop
+bit-requires c κs = (omega (arith, found (c .before) .byte), search needs)
+
+add-key : tie.Need-add-key Inv-loop2 μ-loop2 Inv-loop μ-loop
+add-key c = omega (arith, small (c .before .before))
+
+array-read-name : tie.Need-array-read-name Inv-loop2 μ-loop2 Inv-loop μ-loop
+array-read-name c = omega (arith, small (c .before .before))
+
+returns : tie.Need-returns Inv-loop2 μ-loop2 Inv-loop μ-loop
+returns c = let i = c .before .before .before .before in splitting-full (so-far i) (found i) (c .before .before .bit .ensures .0) (c .before .if1 .taken) (c .if2 .taken)
+
+cast-map : tie.Need-cast-map Inv-loop2 μ-loop2 Inv-loop μ-loop
+cast-map c = omega (arith, so-far (c .before .before .before .before) .few)
+
+element-write-map : tie.Need-element-write-map Inv-loop2 μ-loop2 Inv-loop μ-loop
+element-write-map c = omega (arith, found (c .before .before .before .before) .byte)
+
+add-k : tie.Need-add-k Inv-loop2 μ-loop2 Inv-loop μ-loop
+add-k c = omega (arith, so-far (c .before .before .before .before) .few)
+
+cast-names : tie.Need-cast-names Inv-loop2 μ-loop2 Inv-loop μ-loop
+cast-names c = omega (arith, so-far (c .before .before .before .before) .few)
+
+array-write-names : tie.Need-array-write-names Inv-loop2 μ-loop2 Inv-loop μ-loop
+array-write-names c = omega (arith, small (c .before .before .before .before))
+
+element-write-map-2 : tie.Need-element-write-map-2 Inv-loop2 μ-loop2 Inv-loop μ-loop
+element-write-map-2 c = omega (arith, found (c .before .before .before) .byte)
+
+shr-rest : tie.Need-shr-rest Inv-loop2 μ-loop2 Inv-loop μ-loop
+shr-rest c = omega (arith, inside (c .before .before .before), c .before .before .before .before .loop2 .inv .0 .from)
+
+add-at : tie.Need-add-at Inv-loop2 μ-loop2 Inv-loop μ-loop
+add-at c = omega (arith, found (c .before .before .before) .byte)
+
+loop2-less : tie.Need-loop2-less Inv-loop2 μ-loop2 Inv-loop μ-loop
+loop2-less c = omega (arith, inside (c .before .before .before))
+
+loop2-again : tie.Need-loop2-again Inv-loop2 μ-loop2 Inv-loop μ-loop
+loop2-again c = let i = c .before .before .before in
+    let l = i .before .loop2 in (
+      rest-next (l .inv .0) (fits i) (i .loop2-test .taken),
+      λ old s. ⊎-elim (λ w. rw (w .2, w .3, w .4) (splitting-new (l .inv .1 old s) (found i) (c .before .bit .ensures .0) (w .0 .taken) (w .1 .left)))
+          (λ w. rw (w .1, w .2, w .3) (splitting-old (l .inv .1 old s) (found i) (c .before .bit .ensures .0) (w .0 .left))) (c .if1 .came),
     )
 
-returns-2 : tie.Need-returns-2 Inv-loop μ-loop
-returns-2 c = splitting-all (c .before .loop .inv .1) _ (c .before .loop .inv .0) (c .loop-test .left)
+loop-again : tie.Need-loop-again Inv-loop2 μ-loop2 Inv-loop μ-loop
+loop-again c = let l = c .before .loop2 in
+    let e : 64 * c .before .before .before .loop .w + 64 ≡ 64 * (c .before .before .before .loop .w + 1) = omega arith in
+    (search needs, rw e at (splitting-pass (l .inv .1 _ (c .before .before .before .loop .inv .1)) _ (l .inv .0 .upto) (rest-none (l .inv .0) (c .loop2-test .left))))
+
+returns-2 : tie.Need-returns-2 Inv-loop2 μ-loop2 Inv-loop μ-loop
+returns-2 c = splitting-all (omega arith) (c .before .loop .inv .1)
 
 pub split-spec : {M : Type 1} → statement M
 split-spec =
     tie.close
     (tie.spec
+    Inv-loop2
+    μ-loop2
     Inv-loop
     μ-loop
     loop-holds
     (λ c. search needs)
+    (λ c. search needs)
+    (λ c. search needs)
+    loop2-holds
+    cast-zeros
+    add-b
+    element-copy-out-key
     cast-key
     mul-key
-    (λ c. search needs)
-    cast-bit
     bit-requires
     add-key
     array-read-name
     returns
-    (λ c. search needs)
-    (λ c. search needs)
-    (λ c. search needs)
-    (λ c. search needs)
+    cast-map
+    element-write-map
+    add-k
+    cast-names
     array-write-names
     (λ c. search needs)
-    (λ c. search needs)
+    element-write-map-2
+    shr-rest
+    add-at
+    loop2-less
+    loop2-again
     (λ c. search needs)
     (λ c. search needs)
     loop-again
