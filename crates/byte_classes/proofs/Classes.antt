@@ -1,7 +1,8 @@
 -- Grouping. A split reads the bytes run by run: the key of a run has a class already, or takes the next number. A position more splits the classes so far.
 --   class-below, class-used: a class is below their number, and each has a byte
---   Splitting: the loops of a split: the classes of the keys of the runs that end below b, and the table of their names
---   splitting-none, splitting-pass, splitting-below, splitting-old, splitting-new, splitting-full, splitting-all: their turns
+--   Splitting: the loops of a split: the classes of the keys of the bytes below x, where a run begins, and the table of their names
+--   splitting-none, splitting-below, splitting-old, splitting-new, splitting-full: their turns
+--   Split, split-at, split-run, split-pass, split-all: the same at any byte b, which may be within a run
 --   like-key: splitting by a position
 --   group-none, group-below, group-next, group-many: the loop over the positions
 --   spread-more, group-spread: the classes spread over the bytes
@@ -28,7 +29,7 @@ use Rattle.buffers.proofs.Numbered.{numbered-none, numbered-same, numbered-new,
 use Rattle.sets.specs.Layout.{bitAt}
 use Rattle.sets.proofs.HeldBits.{bit-small}
 use Rattle.byte_runs.specs.Runs.{lastByte, isEnd, NoEnd, RunEnd, Like}
-use Rattle.byte_runs.proofs.Ends.{before-last, run-longer}
+use Rattle.byte_runs.proofs.Ends.{none-then, before-last, run-longer}
 use Rattle.byte_classes.specs.Group.{endOf, ownPlace, Key, Classes, Grouped, GroupAnswer, ClassesBelow}
 use Rattle.byte_classes.specs.declared.Counted.{Counted}
 use Rattle.byte_classes.specs.declared.Counted.the-variants.{Few, Many}
@@ -54,205 +55,187 @@ class-used {class = class} c i h = met-used class byteValues i (c .smallest) (rw
 abbrev keyOf : List ℕ → ℕ → (ℕ → ℕ) → List ℕ → ℕ → ℕ
 keyOf m p at old a = 2 * getD old (at a) 0 + bitAt m p (at a)
 
--- the bytes below `from` are those of the runs that end below b; lead has the key of each class; names has for each of these keys 1 more than its class, and 0
--- for the others
-pub record Splitting (m : List ℕ) (p : ℕ) (ends old names map : List ℕ) (k b : ℕ) : Type 0 where
-  pub last : isEnd ends lastByte ≡ true
-  pub below : ClassesBelow (endOf ends) old
-  pub names-size : length names ≡ 2 * classLimit
-  pub map-size : length map ≡ byteValues
-  pub few : k ≤ classLimit
-  pub from : ℕ
-  pub upto : from ≤ b
-  pub byte : from ≤ byteValues
-  pub passed : NoEnd ends from b
-  pub whole : (a : ℕ) → a < from → endOf ends a < from
-  -- the old classes stand there
-  pub ahead : (a : ℕ) → from ≤ a → getD map a 0 ≡ getD old a 0
-  pub lead : List ℕ
+-- lead has the key of each class; names has for each of these keys 1 more than its class, and 0 for the others
+pub record Table (names lead : List ℕ) (k : ℕ) : Type 0 where
+  pub size : length names ≡ 2 * classLimit
   pub leads : length lead ≡ classLimit
-  pub numbered : Numbered Same (keyOf m p (endOf ends) old) (λ a. getD map (endOf ends a) 0) (λ v. getD lead v 0) 0 k from
+  pub few : k ≤ classLimit
   pub new : (i : ℕ) → getD names i 0 ≡ 0 → (v : ℕ) → v < k → getD lead v 0 ≡ i → ⊥
   pub known : (i : ℕ) → (getD names i 0 ≡ 0 → ⊥) → (getD names i 0 ≤ k) × (getD lead (getD names i 0 - 1) 0 ≡ i)
 
+-- a key takes the next class
+module _ {names lead : List ℕ} {k key : ℕ} (t : Table names lead k) (room : key < 2 * classLimit) (ne : k ≡ classLimit → ⊥) where
+  lead-own : getD (set lead k key) k 0 ≡ key
+  lead-own = getD-set-same lead k key 0 (omega (arith, t .few, t .leads))
+
+  lead-kept : (v : ℕ) → v < k → getD (set lead k key) v 0 ≡ getD lead v 0
+  lead-kept v h = getD-set-other lead k v key 0 (λ q. omega arith)
+
+  table-more : Table (set names key (k + 1)) (set lead k key) (k + 1)
+  table-more = record {
+    size = length-set names key (k + 1) ∙ t .size;
+    leads = length-set lead k key ∙ t .leads;
+    few = omega (arith, t .few);
+    new = λ i q v h y. elim (ℕ-discrete i key) [
+      | yes d ↦ omega (arith, rw d at q, named)
+      | no d ↦ elim (split v k) [ inl l ↦ t .new i (sym (unnamed i d) ∙ q) v l (sym (lead-kept v l) ∙ y) | inr l ↦ (let e : v ≡ k = omega arith in d (sym (rw e at y) ∙ lead-own)) ]
+    ];
+    known = λ i h. elim (ℕ-discrete i key) [
+      | yes d ↦ (let e : k + 1 - 1 ≡ k = omega arith in rw (d, named, e) (omega arith, lead-own))
+      | no d ↦
+          (let some : getD names i 0 ≡ 0 → ⊥ = λ y. h (unnamed i d ∙ y) in
+          let (most, q) = t .known i some in
+          rw (unnamed i d) (omega arith, lead-kept (getD names i 0 - 1) (omega arith) ∙ q))
+    ];
+  }
+    where
+      named : getD (set names key (k + 1)) key 0 ≡ k + 1
+      named = getD-set-same names key (k + 1) 0 (omega (arith, t .size))
+
+      unnamed : (i : ℕ) → (i ≡ key → ⊥) → getD (set names key (k + 1)) i 0 ≡ getD names i 0
+      unnamed i d = getD-set-other names key i (k + 1) 0 d
+
+pub record Splitting (m : List ℕ) (p : ℕ) (ends old names map : List ℕ) (k x : ℕ) : Type 0 where
+  pub last : isEnd ends lastByte ≡ true
+  pub below : ClassesBelow (endOf ends) old
+  pub size : length map ≡ byteValues
+  pub byte : x ≤ byteValues
+  pub whole : (a : ℕ) → a < x → endOf ends a < x
+  -- the old classes stand from x on
+  pub ahead : (a : ℕ) → x ≤ a → getD map a 0 ≡ getD old a 0
+  pub lead : List ℕ
+  pub table : Table names lead k
+  pub numbered : Numbered Same (keyOf m p (endOf ends) old) (λ a. getD map (endOf ends a) 0) (λ v. getD lead v 0) 0 k x
+
 -- no byte yet
-pub splitting-none : (m : List ℕ) (p : ℕ) (ends old : List ℕ) → isEnd ends lastByte ≡ true → length old ≡ byteValues → ClassesBelow (endOf ends) old → Splitting m p ends old (replicate (2 * classLimit) 0) old 0 0
+pub splitting-none : (m : List ℕ) (p : ℕ) (ends old : List ℕ) → isEnd ends lastByte ≡ true → length old ≡ byteValues → ClassesBelow (endOf ends) old
+    → Splitting m p ends old (replicate (2 * classLimit) 0) old 0 0
 splitting-none m p ends old last size below = record {
   last = last;
   below = below;
-  names-size = length-replicate {A = ℕ} (2 * classLimit) 0;
-  map-size = size;
-  few = omega arith;
-  from = 0;
-  upto = omega arith;
+  size = size;
   byte = omega arith;
-  passed = λ c h. absurd (omega arith);
   whole = λ a h. absurd (omega arith);
   ahead = λ a h. refl;
   lead = replicate classLimit 0;
-  leads = length-replicate {A = ℕ} classLimit 0;
+  table = record {
+    size = length-replicate {A = ℕ} (2 * classLimit) 0;
+    leads = length-replicate {A = ℕ} classLimit 0;
+    few = omega arith;
+    new = λ i e v h. absurd (omega arith);
+    known = λ i h. absurd (h (zeros (2 * classLimit) i));
+  };
   numbered = numbered-none (omega arith);
-  new = λ i e v h. absurd (omega arith);
-  known = λ i h. absurd (h (zeros (2 * classLimit) i));
 }
 
--- no end from b up to t
-pub splitting-pass : {m : List ℕ} {p : ℕ} {ends old names map : List ℕ} {k b : ℕ} → Splitting m p ends old names map k b → (t : ℕ) → b ≤ t → NoEnd ends b t
-    → Splitting m p ends old names map k t
-splitting-pass {b = b} s t h n = record {
-  last = s .last;
-  below = s .below;
-  names-size = s .names-size;
-  map-size = s .map-size;
-  few = s .few;
-  from = s .from;
-  upto = omega (arith, s .upto);
-  byte = s .byte;
-  passed = λ c l k. elim (split c b) [ inl y ↦ s .passed c y k | inr y ↦ n c l y ];
-  whole = s .whole;
-  ahead = s .ahead;
-  lead = s .lead;
-  leads = s .leads;
-  numbered = s .numbered;
-  new = s .new;
-  known = s .known;
-}
-
--- e: the next end
-module _ {m : List ℕ} {p : ℕ} {ends old names map : List ℕ} {k b e : ℕ} (s : Splitting m p ends old names map k b) (r : RunEnd ends b e) where
-  run : RunEnd ends (s .from) e
-  run = run-longer (s .from) (s .upto) (s .passed) r
-
-  in-run : (a : ℕ) → s .from ≤ a → a ≤ e → endOf ends a ≡ e
-  in-run = end-inside ends (s .last) run
+-- e: the end of the run that begins at x
+module _ {m : List ℕ} {p : ℕ} {ends old names map : List ℕ} {k x e : ℕ} (s : Splitting m p ends old names map k x) (r : RunEnd ends x e) where
+  in-run : (a : ℕ) → x ≤ a → a ≤ e → endOf ends a ≡ e
+  in-run = end-inside ends (s .last) r
 
   -- its old class is below 64
   pub splitting-below : getD map e 0 < classLimit
-  splitting-below = omega (arith, s .ahead e (run .upto), rw (in-run (s .from) (omega arith) (run .upto)) at (s .below (s .from) (omega (arith, run .upto, run .byte))))
+  splitting-below = omega (arith, s .ahead e (r .upto), rw (in-run x (omega arith) (r .upto)) at (s .below x (omega (arith, r .upto, r .byte))))
 
-  -- x: its bit
-  module _ {x : ℕ} (ex : x ≡ bitAt m p e) where
-    at : (a : ℕ) → s .from ≤ a → a ≤ e → 2 * getD map e 0 + x ≡ keyOf m p (endOf ends) old a
-    at a h l = rw (in-run a h l) (ap₂ (λ (y z : ℕ). 2 * y + z) (s .ahead e (run .upto)) ex)
+  -- the class v at the end: of the bytes before, of those of the run, and after it
+  kept : (v a : ℕ) → a < x → getD (set map e v) (endOf ends a) 0 ≡ getD map (endOf ends a) 0
+  kept v a h = getD-set-other map e (endOf ends a) v 0 (λ q. omega (arith, s .whole a h, r .upto))
 
-    kept : (v a : ℕ) → a < s .from → getD (set map e v) (endOf ends a) 0 ≡ getD map (endOf ends a) 0
-    kept v a h = getD-set-other map e (endOf ends a) v 0 (λ q. omega (arith, s .whole a h, run .upto))
+  here : (v a : ℕ) → x ≤ a → a ≤ e → getD (set map e v) (endOf ends a) 0 ≡ v
+  here v a h l = rw (in-run a h l) (getD-set-same map e v 0 (omega (arith, s .size, r .byte)))
 
-    here : (v a : ℕ) → s .from ≤ a → a ≤ e → getD (set map e v) (endOf ends a) 0 ≡ v
-    here v a h l = rw (in-run a h l) (getD-set-same map e v 0 (omega (arith, s .map-size, r .byte)))
+  later : (v a : ℕ) → e + 1 ≤ a → getD (set map e v) a 0 ≡ getD old a 0
+  later v a h = getD-set-other map e a v 0 (λ q. omega arith) ∙ s .ahead a (omega (arith, r .upto))
 
-    later : (v a : ℕ) → e + 1 ≤ a → getD (set map e v) a 0 ≡ getD old a 0
-    later v a h = getD-set-other map e a v 0 (λ q. omega arith) ∙ s .ahead a (omega (arith, run .upto))
+  whole : (a : ℕ) → a < e + 1 → endOf ends a < e + 1
+  whole a h = elim (split a x) [ inl l ↦ omega (arith, s .whole a l, r .upto) | inr l ↦ omega (arith, in-run a l (omega arith)) ]
 
-    whole : (a : ℕ) → a < e + 1 → endOf ends a < e + 1
-    whole a h = elim (split a (s .from)) [ inl l ↦ omega (arith, s .whole a l, run .upto) | inr l ↦ omega (arith, in-run a l (omega arith)) ]
+  -- the run is named
+  splitting-more : {names′ : List ℕ} {k′ : ℕ} (v : ℕ) (lead : List ℕ) → Table names′ lead k′
+      → Numbered Same (keyOf m p (endOf ends) old) (λ a. getD (set map e v) (endOf ends a) 0) (λ w. getD lead w 0) 0 k′ (e + 1) → Splitting m p ends old names′ (set map e v) k′ (e + 1)
+  splitting-more v lead t n = record {
+    last = s .last;
+    below = s .below;
+    size = length-set map e v ∙ s .size;
+    byte = omega (arith, r .byte);
+    whole = whole;
+    ahead = later v;
+    lead = lead;
+    table = t;
+    numbered = n;
+  }
+
+  -- y: the bit of the end
+  module _ {y : ℕ} (ey : y ≡ bitAt m p e) where
+    at : (a : ℕ) → x ≤ a → a ≤ e → 2 * getD map e 0 + y ≡ keyOf m p (endOf ends) old a
+    at a h l = rw (in-run a h l) (ap₂ (λ (z w : ℕ). 2 * z + w) (s .ahead e (r .upto)) ey)
 
     -- the key has a class
-    pub splitting-old : (getD names (2 * getD map e 0 + x) 0 ≡ 0 → ⊥)
-        → Splitting m p ends old names (set map e (getD names (2 * getD map e 0 + x) 0 - 1)) k (e + 1)
+    pub splitting-old : (getD names (2 * getD map e 0 + y) 0 ≡ 0 → ⊥)
+        → Splitting m p ends old names (set map e (getD names (2 * getD map e 0 + y) 0 - 1)) k (e + 1)
     splitting-old ne =
-        let v = getD names (2 * getD map e 0 + x) 0 - 1 in
-        let (most, q) = s .known (2 * getD map e 0 + x) ne in
-        record {
-          last = s .last;
-          below = s .below;
-          names-size = s .names-size;
-          map-size = length-set map e v ∙ s .map-size;
-          few = s .few;
-          from = e + 1;
-          upto = omega arith;
-          byte = omega (arith, r .byte);
-          passed = λ c h l. absurd (omega arith);
-          whole = whole;
-          ahead = later v;
-          lead = s .lead;
-          leads = s .leads;
-          numbered = numbered-on (numbered-same (s .numbered) (keyOf m p (endOf ends) old) (λ a. getD (set map e v) (endOf ends a) 0) (λ w. getD (s .lead) w 0) (λ a h. refl) (kept v) (λ w h. refl))
-              (e + 1) (omega (arith, run .upto)) (λ a h l. rw (here v a l (omega arith)) (omega arith, q ∙ at a l (omega arith)));
-          new = s .new;
-          known = s .known;
-        }
+        let v = getD names (2 * getD map e 0 + y) 0 - 1 in
+        let (most, q) = s .table .known (2 * getD map e 0 + y) ne in
+        splitting-more v (s .lead) (s .table)
+        (numbered-on (numbered-same (s .numbered) (keyOf m p (endOf ends) old) (λ a. getD (set map e v) (endOf ends a) 0) (λ w. getD (s .lead) w 0) (λ a h. refl) (kept v) (λ w h. refl)) (e + 1)
+        (omega (arith, r .upto)) (λ a h l. rw (here v a l (omega arith)) (omega arith, q ∙ at a l (omega arith))))
 
-    module _ (z : getD names (2 * getD map e 0 + x) 0 ≡ 0) where
+    module _ (z : getD names (2 * getD map e 0 + y) 0 ≡ 0) where
       -- no class has the key
-      fresh : (v : ℕ) → v < k → getD (s .lead) v 0 ≡ keyOf m p (endOf ends) old (s .from) → ⊥
-      fresh v h q = s .new (2 * getD map e 0 + x) z v h (q ∙ sym (at (s .from) (omega arith) (run .upto)))
+      fresh : (v : ℕ) → v < k → getD (s .lead) v 0 ≡ keyOf m p (endOf ends) old x → ⊥
+      fresh v h q = s .table .new (2 * getD map e 0 + y) z v h (q ∙ sym (at x (omega arith) (r .upto)))
 
       -- the key takes the next class
-      pub splitting-new : (k ≡ classLimit → ⊥) → Splitting m p ends old (set names (2 * getD map e 0 + x) (k + 1)) (set map e k) (k + 1) (e + 1)
-      splitting-new ne = record {
-        last = s .last;
-        below = s .below;
-        names-size = length-set names key (k + 1) ∙ s .names-size;
-        map-size = length-set map e k ∙ s .map-size;
-        few = omega (arith, s .few);
-        from = e + 1;
-        upto = omega arith;
-        byte = omega (arith, r .byte);
-        passed = λ c h l. absurd (omega arith);
-        whole = whole;
-        ahead = later k;
-        lead = set (s .lead) k key;
-        leads = length-set (s .lead) k key ∙ s .leads;
-        numbered = numbered-on (numbered-new (s .numbered) (keyOf m p (endOf ends) old) (λ a. getD (set map e k) (endOf ends a) 0) (λ v. getD (set (s .lead) k key) v 0) (λ a h. refl) (kept k) other
-            (here k (s .from) (omega arith) (run .upto)) (own ∙ at (s .from) (omega arith) (run .upto)) refl fresh)
-            (e + 1) (omega (arith, run .upto)) (λ a h l. rw (here k a (omega arith) (omega arith)) (omega arith, own ∙ at a (omega arith) (omega arith)));
-        new = λ i q v h y. elim (ℕ-discrete i key) [
-          | yes d ↦ omega (arith, rw d at q, named)
-          | no d ↦ elim (split v k) [ inl l ↦ s .new i (sym (unnamed i d) ∙ q) v l (sym (other v l) ∙ y) | inr l ↦ (let t : v ≡ k = omega arith in d (sym (rw t at y) ∙ own)) ]
-        ];
-        known = λ i h. elim (ℕ-discrete i key) [
-          | yes d ↦ rw (d, named) (omega arith, own′)
-          | no d ↦ (let (most, q) = s .known i (λ y. h (unnamed i d ∙ y)) in
-              rw (unnamed i d) (omega arith, other (getD names i 0 - 1) (omega (arith, some i (λ y. h (unnamed i d ∙ y)))) ∙ q))
-        ];
-      }
-        where
-          key : ℕ
-          key = 2 * getD map e 0 + x
-
-          room : key < length names
-          room = omega (arith, s .names-size, splitting-below, ex, bit-small m p e)
-
-          named : getD (set names key (k + 1)) key 0 ≡ k + 1
-          named = getD-set-same names key (k + 1) 0 room
-
-          unnamed : (i : ℕ) → (i ≡ key → ⊥) → getD (set names key (k + 1)) i 0 ≡ getD names i 0
-          unnamed i d = getD-set-other names key i (k + 1) 0 d
-
-          own : getD (set (s .lead) k key) k 0 ≡ key
-          own = getD-set-same (s .lead) k key 0 (omega (arith, s .few, s .leads))
-
-          own′ : getD (set (s .lead) k key) (k + 1 - 1) 0 ≡ key
-          own′ = let q : k + 1 - 1 ≡ k = omega arith in rw q own
-
-          other : (v : ℕ) → v < k → getD (set (s .lead) k key) v 0 ≡ getD (s .lead) v 0
-          other v h = getD-set-other (s .lead) k v key 0 (λ q. omega arith)
-
-          some : (i : ℕ) → (getD names i 0 ≡ 0 → ⊥) → 0 < getD names i 0
-          some i h = omega arith
+      pub splitting-new : (k ≡ classLimit → ⊥) → Splitting m p ends old (set names (2 * getD map e 0 + y) (k + 1)) (set map e k) (k + 1) (e + 1)
+      splitting-new ne =
+          let key = 2 * getD map e 0 + y in
+          let room : key < 2 * classLimit = omega (arith, splitting-below, bit-small m p e) in
+          let own = lead-own (s .table) room ne in
+          splitting-more k (set (s .lead) k key) (table-more (s .table) room ne)
+          (numbered-on (numbered-new (s .numbered) (keyOf m p (endOf ends) old) (λ a. getD (set map e k) (endOf ends a) 0) (λ v. getD (set (s .lead) k key) v 0) (λ a h. refl) (kept k)
+          (lead-kept (s .table) room ne) (here k x (omega arith) (r .upto)) (own ∙ at x (omega arith) (r .upto)) refl fresh) (e + 1) (omega (arith, r .upto))
+          (λ a h l. rw (here k a (omega arith) (omega arith)) (omega arith, own ∙ at a (omega arith) (omega arith))))
 
       -- a 65th class
       pub splitting-full : k ≡ classLimit → Over classLimit (λ (a : ℕ). a < byteValues) (Key m p (endOf ends) old)
       splitting-full q =
-          let came : (v : ℕ) → v < k → Came (keyOf m p (endOf ends) old) (λ a. getD map (endOf ends a) 0) (λ w. getD (s .lead) w 0) v (s .from) = λ v h. s .numbered .came v h (omega arith) in
-          rw q at (over-one (λ (a : ℕ). a < byteValues) (Key m p (endOf ends) old) k (λ v h. came v h .thing) (s .from) (λ v h. omega (arith, came v h .inside, s .byte)) (omega (arith, run .upto, run .byte))
-          (λ v w h l lt y. s .numbered .apart v w l lt (sym (came v h .leads) ∙ y ∙ came w l .leads)) (λ v h y. fresh v h (sym (came v h .leads) ∙ y)))
+          let came : (v : ℕ) → v < k → Came (keyOf m p (endOf ends) old) (λ a. getD map (endOf ends a) 0) (λ w. getD (s .lead) w 0) v x = λ v h. s .numbered .came v h (omega arith) in
+          rw q at (over-one (λ (a : ℕ). a < byteValues) (Key m p (endOf ends) old) k (λ v h. came v h .thing) x (λ v h. omega (arith, came v h .inside, s .byte)) (omega (arith, r .upto, r .byte))
+          (λ v w h l lt u. s .numbered .apart v w l lt (sym (came v h .leads) ∙ u ∙ came w l .leads)) (λ v h u. fresh v h (sym (came v h .leads) ∙ u)))
 
--- all bytes
-pub splitting-all : {m : List ℕ} {p : ℕ} {ends old names map : List ℕ} {k b : ℕ}
-    → byteValues ≤ b → Splitting m p ends old names map k b → Grouped (Key m p (endOf ends) old) (endOf ends) map k
-splitting-all {ends = ends} {b = b} h s =
-    let q : s .from ≡ byteValues = elim (split (s .from) byteValues) [
-      | inl l ↦ omega (arith, before-last ends (s .from) b (s .last) l (s .passed))
-      | inr l ↦ omega (arith, s .byte)
-    ] in
-    let n = rw q at (s .numbered) in
-    record {
-      size = s .map-size;
-      few = s .few;
-      classes = record { same = numbered-one n (λ a c. sym) (λ a c d. _∙_); smallest = numbered-arrival n; count = numbered-met n };
-    }
+-- the runs that end below b are split; the next begins at x
+pub record Split (m : List ℕ) (p : ℕ) (ends old names map : List ℕ) (k b : ℕ) : Type 0 where
+  pub x : ℕ
+  pub upto : x ≤ b
+  pub none : NoEnd ends x b
+  pub done : Splitting m p ends old names map k x
+
+-- a run begins here
+pub split-at : {m : List ℕ} {p : ℕ} {ends old names map : List ℕ} {k b : ℕ} → Splitting m p ends old names map k b → Split m p ends old names map k b
+split-at {b = b} s = record { x = b; upto = omega arith; none = λ c h l. absurd (omega arith); done = s }
+
+module _ {m : List ℕ} {p : ℕ} {ends old names map : List ℕ} {k b : ℕ} (s : Split m p ends old names map k b) where
+  -- where the next run ends
+  pub split-run : {e : ℕ} → RunEnd ends b e → RunEnd ends (s .x) e
+  split-run = run-longer (s .x) (s .upto) (s .none)
+
+  -- no end up to c
+  pub split-pass : (c : ℕ) → b ≤ c → NoEnd ends b c → Split m p ends old names map k c
+  split-pass c h n = record { x = s .x; upto = omega (arith, s .upto); none = none-then ends (s .x) b c (s .none) n; done = s .done }
+
+  -- all bytes
+  pub split-all : byteValues ≤ b → Grouped (Key m p (endOf ends) old) (endOf ends) map k
+  split-all h =
+      let q : s .x ≡ byteValues = elim (split (s .x) byteValues) [
+        | inl l ↦ omega (arith, before-last ends (s .x) b (s .done .last) l (s .none))
+        | inr l ↦ omega (arith, s .done .byte)
+      ] in
+      let n = rw q at (s .done .numbered) in
+      record {
+        size = s .done .size;
+        few = s .done .table .few;
+        classes = record { same = numbered-one n (λ a c. sym) (λ a c d. _∙_); smallest = numbered-arrival n; count = numbered-met n };
+      }
 
 -- ---- the loop over the positions
 

@@ -175,7 +175,7 @@ quiet-runs {m} {n} {ends} q = record {
 -- ---- the ends of one word
 
 pub record Rest (ends : List ℕ) (w rest b : ℕ) : Type 0 where
-  pub upto : b ≤ 64 * w + 64
+  pub upto : b ≤ 64 * (w + 1)
   pub from : 64 * w ≤ b
   pub left : rest ≡ getD ends w 0 / 2 ^ (b - 64 * w)
 
@@ -189,14 +189,14 @@ rest-at ends b = record { upto = omega arith; from = omega arith; left = (let e 
 
 module _ {ends : List ℕ} {w rest b : ℕ} (r : Rest ends w rest b) where
   -- a bit that is left
-  rest-bit : (c : ℕ) → b ≤ c → c < 64 * w + 64 → isEnd ends c ≡ has rest (c - b)
+  rest-bit : (c : ℕ) → b ≤ c → c < 64 * (w + 1) → isEnd ends c ≡ has rest (c - b)
   rest-bit c h l =
       let d : c / 64 ≡ w = omega (arith, r .from) in
       let e : c % 64 ≡ b - 64 * w + (c - b) = omega (arith, r .from) in
       rw (d, e, r .left) (sym (has-shr (getD ends w 0) (b - 64 * w) (c - b)))
 
   -- none is left
-  pub rest-none : rest ≡ 0 → NoEnd ends b (64 * w + 64)
+  pub rest-none : rest ≡ 0 → NoEnd ends b (64 * (w + 1))
   rest-none z c l h = rest-bit c h l ∙ rw z (has-zero (c - b))
 
   module _ (small : getD ends w 0 < 2 ^ 64) (some : rest ≡ 0 → ⊥) where
@@ -204,7 +204,7 @@ module _ {ends : List ℕ} {w rest b : ℕ} (r : Rest ends w rest b) where
     lowest = trailing-one 64 rest (omega arith) (omega (arith, r .left, shr-le (getD ends w 0) (b - 64 * w)))
 
     -- the lowest stands in the word
-    pub rest-in : b + trailingZeros 64 rest < 64 * w + 64
+    pub rest-in : b + trailingZeros 64 rest < 64 * (w + 1)
     rest-in = omega (
       arith,
       r .from,
@@ -213,7 +213,7 @@ module _ {ends : List ℕ} {w rest b : ℕ} (r : Rest ends w rest b) where
     )
 
     -- it is the next end
-    pub rest-end : 64 * w + 64 ≤ byteValues → RunEnd ends b (b + trailingZeros 64 rest)
+    pub rest-end : 64 * (w + 1) ≤ byteValues → RunEnd ends b (b + trailingZeros 64 rest)
     rest-end h =
         let e : b + trailingZeros 64 rest - b ≡ trailingZeros 64 rest = omega arith in
         record {
@@ -234,23 +234,14 @@ module _ {ends : List ℕ} {w rest b : ℕ} (r : Rest ends w rest b) where
           left = rw e (ap (λ (n : ℕ). n / 2 ^ z / 2) (r .left) ∙ ap (λ (n : ℕ). n / 2) (shr-shr (getD ends w 0) (b - 64 * w) z) ∙ shr-shr (getD ends w 0) (b - 64 * w + z) 1);
         }
 
--- no end in the word of x, so none from b up to the next word
-pub rest-past : {ends : List ℕ} {x rest : ℕ} (b : ℕ) → NoEnd ends b x → Rest ends (x / 64) rest x → rest ≡ 0 → NoEnd ends b (x + (64 - x % 64))
-rest-past {x = x} b n r z c l h = elim (split c x) [ inl k ↦ n c k h | inr k ↦ rest-none r z c (omega arith) k ]
-
--- the word after it
-pub rest-word : (ends : List ℕ) (x : ℕ) → Rest ends ((x + (64 - x % 64)) / 64) (getD ends ((x + (64 - x % 64)) / 64) 0) (x + (64 - x % 64))
-rest-word ends x = let e : 64 * ((x + (64 - x % 64)) / 64) ≡ x + (64 - x % 64) = omega arith in rw e at (rest-start ends ((x + (64 - x % 64)) / 64))
+-- no end in two parts side by side
+pub none-then : (ends : List ℕ) (a b c : ℕ) → NoEnd ends a b → NoEnd ends b c → NoEnd ends a c
+none-then ends a b c n m x h l = elim (split x b) [ inl k ↦ n x k l | inr k ↦ m x h k ]
 
 -- where no end was met, 255 was not
 pub before-last : (ends : List ℕ) (b x : ℕ) → isEnd ends lastByte ≡ true → b < byteValues → NoEnd ends b x → x < byteValues
 before-last ends b x e h n = elim (split x byteValues) [ inl k ↦ k | inr k ↦ absurd (true≢false (sym e ∙ n lastByte (omega arith) (omega arith))) ]
 
--- the end of the run of x is that of b, if there is none in between
+-- with no end up to x, the end of its run is that of b
 pub run-longer : {ends : List ℕ} {x e : ℕ} (b : ℕ) → b ≤ x → NoEnd ends b x → RunEnd ends x e → RunEnd ends b e
-run-longer {x = x} b h n r = record {
-  upto = omega (arith, r .upto);
-  byte = r .byte;
-  end = r .end;
-  before = λ c l k. elim (split c x) [ inl y ↦ n c y k | inr y ↦ r .before c l y ];
-}
+run-longer {ends} {x} {e} b h n r = record { upto = omega (arith, r .upto); byte = r .byte; end = r .end; before = none-then ends b x e n (r .before) }

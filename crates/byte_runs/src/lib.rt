@@ -78,11 +78,13 @@ pub fn end_of(ends: [u64; END_WORDS], b: usize) -> usize
     requires { ⌜ (b < byteValues) × (isEnd ends lastByte ≡ true) ⌝ }
     ensures { λ r. ⌜ RunEnd ends b r ⌝ }
 {
+    let mut w = b / 64;
     let mut x = b;
-    let mut rest = ends[x / 64] >> (x % 64);
+    let mut rest = ends[w] >> (b % 64);
     while rest == 0 {
-        x += 64 - x % 64;
-        rest = ends[x / 64];
+        w += 1;
+        x = 64 * w;
+        rest = ends[w];
     }
     x + u64::trailing_zeros(rest) as usize
 }
