@@ -102,7 +102,7 @@ class Rows:
             if not after.startswith("refused"):
                 n, k, *_ = map(int, re.findall(r"\d+", after))
                 self.lengths[fields[0]] = (1553 + n + 7 * n * k + 7) // 8
-        texts.append("[\\x12-\\x20]")
+        texts += ["[\\x12-\\x20]", "[\\x40-\\x5A]"]
         drawn = [drawn_pattern(3) for _ in range(60)]
         texts += drawn
         self.texts = [*self.lengths, *drawn]

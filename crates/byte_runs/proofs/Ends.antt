@@ -11,7 +11,7 @@ use mathlib.Core.Path.{_≡_, refl, sym, ap, _∙_}
 use mathlib.Core.Bool.{true, false, true≢false}
 use mathlib.Core.List.{List}
 use mathlib.Core.Logic.{_⊎_, inl, inr}
-use native.Mathlib.Nat.{div-one, pow-suc}
+use native.Mathlib.Nat.{div-one}
 use native.Mathlib.Numerals.{add-one}
 use native.Mathlib.Omega.{arith}
 use native.Mathlib.Decide.{le-ind}
@@ -19,7 +19,7 @@ use borrow.Author.Count.{below-more}
 use borrow.Author.Tests.{eqb-false}
 use lib.Bits.{bitOr, bitXor, or-step, xor-step, or-shr, xor-shr, block-half, block-odd}
 use lib.Count.{trailingZeros}
-use lib.ListN.{length, getD, set, replicate}
+use lib.ListN.{length, getD, set}
 use lib.Pow.{pow-add, pow-mono, shr-shr, shr-le, high}
 use lib.Seq.{getD-set-same, getD-set-other}
 use Rattle.scope.specs.Limits.{byteValues}
@@ -100,7 +100,7 @@ edges-none e x z k h =
     (rw d, differ-none (x / 2 ^ k) (z / 2 ^ k) (omega arith))
 
 -- x: the bits of the word number w of a byte set
-module _ (m : List ℕ) (p w x : ℕ) (v : EightBytes m (p * byteSet + 8 * w) x) (small : x < 2 ^ 64) where
+module _ (m : List ℕ) (p w x : ℕ) (v : EightBytes m (p * byteSet + 8 * w) x) where
   -- the bit of a byte value
   own-bit : (j : ℕ) → j < 64 → x / 2 ^ j % 2 ≡ bitAt m p (64 * w + j)
   own-bit j h =
@@ -109,8 +109,8 @@ module _ (m : List ℕ) (p w x : ℕ) (v : EightBytes m (p * byteSet + 8 * w) x)
       rw (e, d) (v .bits j h)
 
   -- the bit of the next, for which the byte after the word is asked
-  next-bit : (j : ℕ) → j < 64 → (getD m (p * byteSet + 8 * w + 8) 0 % 2 * 2 ^ 63 + x / 2) / 2 ^ j % 2 ≡ bitAt m p (64 * w + j + 1)
-  next-bit j h = elim (split j 63) [
+  next-bit : x < 2 ^ 64 → (j : ℕ) → j < 64 → (getD m (p * byteSet + 8 * w + 8) 0 % 2 * 2 ^ 63 + x / 2) / 2 ^ j % 2 ≡ bitAt m p (64 * w + j + 1)
+  next-bit small j h = elim (split j 63) [
     | inl k ↦ (let e : 64 * w + j + 1 ≡ 64 * w + suc j = omega arith in
         lower-bit 63 (getD m (p * byteSet + 8 * w + 8) 0 % 2) (x / 2) j k ∙ ap (λ (y : ℕ). y % 2) (half x j) ∙ rw e (own-bit (suc j) (omega arith)))
     | inr k ↦ (let u : j ≡ 63 = omega arith in
@@ -145,7 +145,7 @@ noted-more {m} {p} {x} {old} {new} w n h v small = record {
         let d : b / 64 ≡ w = omega arith in
         let e : 64 * w + b % 64 ≡ b = omega arith in
         let (s, t) = edges-none (getD old w 0) x next (b % 64) (rw (d, getD-set-same new w word 0 h) at z) in
-        (rw d s, rw e at (sym (own-bit m p w x v small (b % 64) (omega arith)) ∙ t ∙ next-bit m p w x v small (b % 64) (omega arith)))
+        (rw d s, rw e at (sym (own-bit m p w x v (b % 64) (omega arith)) ∙ t ∙ next-bit m p w x v small (b % 64) (omega arith)))
 
 -- ---- all positions
 

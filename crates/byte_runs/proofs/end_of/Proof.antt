@@ -29,9 +29,6 @@ passed c = let l = c .before .loop in none-then (c .before .before .args .t1) _ 
 more : (c : tie.In-loop Inv-loop μ-loop) → 64 * (c .before .loop .w + 1) < byteValues
 more c = before-last (c .before .before .args .t1) (c .before .before .args .b) _ (c .before .before .pre .1) (c .before .before .pre .0) (passed c)
 
-array-read-rest-2 : tie.Need-array-read-rest-2 Inv-loop μ-loop
-array-read-rest-2 c = omega (arith, more c)
-
 loop-again : tie.Need-loop-again Inv-loop μ-loop
 loop-again c = (omega (arith, c .before .loop .inv .0, c .before .loop .inv .3 .upto), more c, passed c, rest-start _ _)
 
@@ -41,12 +38,6 @@ found c =
     let l = c .before .loop in
     let fit : Fits w64 (getD (c .before .before .args .t1) (l .w) 0) = search needs in
     rest-end (l .inv .3) (fit .fits) (c .loop-test .left) (omega (arith, l .inv .1))
-
-cast-result : tie.Need-cast-result Inv-loop μ-loop
-cast-result c = omega (arith, found c .byte)
-
-add-result : tie.Need-add-result Inv-loop μ-loop
-add-result c = omega (arith, found c .byte)
 
 returns : tie.Need-returns Inv-loop μ-loop
 returns c = run-longer (c .before .before .args .b) (c .before .loop .inv .0) (c .before .loop .inv .2) (found c)
@@ -64,9 +55,9 @@ end-of-spec =
     (λ c. search needs)
     (λ c. search needs)
     (λ c. search needs)
-    array-read-rest-2
+    (λ c. omega (arith, more c))
     (λ c. search needs)
     loop-again
-    cast-result
-    add-result
+    (λ c. omega (arith, found c .byte))
+    (λ c. omega (arith, found c .byte))
     returns)

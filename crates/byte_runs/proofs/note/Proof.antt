@@ -3,9 +3,9 @@ use Prim.Native.Nat.{_+_, _-_, _*_, _≤_}
 use mathlib.Core.Path.{_≡_}
 use native.Mathlib.Omega.{arith}
 use borrow.Author.Needs.{needs}
+use mir.Facts.{fits-widen}
 use lib.ListN.{length}
 use Rattle.scope.specs.Limits.{byteValues}
-use Rattle.sets.specs.Layout.{byteSet}
 use Rattle.byte_runs.specs.Runs.{EndsNoted}
 use Rattle.byte_runs.proofs.Ends.{noted-none, noted-more}
 use Rattle.byte_runs.proofs.note.Statement.{statement}
@@ -19,9 +19,6 @@ abbrev μ-loop : tie.MeasureT-loop
 
 loop-holds : tie.Need-loop-holds Inv-loop μ-loop
 loop-holds c = (search needs, search needs, noted-none _ _ _ _)
-
-cast-y : tie.Need-cast-y Inv-loop μ-loop
-cast-y c = let l = c .before .before .before in omega (arith, c .shared-slice-known2 .given (l .before .before .args .p * byteSet + 8 * l .loop .w + 8))
 
 loop-again : tie.Need-loop-again Inv-loop μ-loop
 loop-again c = let l = c .before .before .before in (search needs, search needs, noted-more (l .loop .w) (l .loop .inv .2) (omega (arith, l .loop .inv .1)) (c .before .word .ensures) (omega arith))
@@ -42,7 +39,7 @@ note-spec =
     (λ c κs. search needs)
     (λ c. search needs)
     (λ c. search needs)
-    cast-y
+    (λ c. fits-widen tt (c .shared-slice-known2 .given _))
     (λ c. search needs)
     (λ c. search needs)
     (λ c. search needs)

@@ -1,7 +1,8 @@
 -- The invariant: the number has the bits of the bytes from i on (`Joining`).
-use Prim.Native.Nat.{_+_, _-_}
+use Prim.Native.Nat.{_+_, _-_, _<_}
 use native.Mathlib.Omega.{arith}
 use borrow.Author.Needs.{needs}
+use lib.ListN.{getD}
 use Rattle.byte_runs.proofs.Ends.{Joining, joining-none, joining-fits, joining-more, joining-all}
 use Rattle.byte_runs.proofs.word.Statement.{statement}
 use Rattle.byte_runs.proofs.word.Tie as tie
@@ -15,20 +16,12 @@ abbrev μ-loop : tie.MeasureT-loop
 loop-holds : tie.Need-loop-holds Inv-loop μ-loop
 loop-holds c = joining-none _ _
 
-mul-x : tie.Need-mul-x Inv-loop μ-loop
-mul-x c = omega (arith, joining-fits (c .before .loop .i - 1) (omega arith) (c .before .loop .inv))
-
-add-x : tie.Need-add-x Inv-loop μ-loop
-add-x c = omega (arith, c .before .loop .inv .few)
-
-cast-x : tie.Need-cast-x Inv-loop μ-loop
-cast-x c = omega (arith, c .shared-slice-known .given (c .before .before .before .args .at + (c .before .before .loop .i - 1)))
-
-add-x-2 : tie.Need-add-x-2 Inv-loop μ-loop
-add-x-2 c = omega (arith, c .shared-slice-known .given (c .before .before .before .args .at + (c .before .before .loop .i - 1)), joining-fits (c .before .before .loop .i - 1) (omega arith) (c .before .before .loop .inv))
+-- a byte is below 256
+byte : (c : tie.After-shared-slice-known Inv-loop μ-loop) → getD (c .before .before .before .args .bytes .now) (c .before .before .before .args .at + (c .before .before .loop .i - 1)) 0 < 256
+byte c = c .shared-slice-known .given _ .fits
 
 loop-again : tie.Need-loop-again Inv-loop μ-loop
-loop-again c = joining-more (c .before .before .loop .i - 1) (omega arith) (c .before .before .loop .inv) (omega (arith, c .shared-slice-known .given (c .before .before .before .args .at + (c .before .before .loop .i - 1))))
+loop-again c = joining-more (c .before .before .loop .i - 1) (omega arith) (c .before .before .loop .inv) (byte c)
 
 returns : tie.Need-returns Inv-loop μ-loop
 returns c = joining-all (c .loop-test .left) (c .before .loop .inv)
@@ -41,11 +34,11 @@ word-spec =
     μ-loop
     loop-holds
     (λ c. search needs)
-    mul-x
-    add-x
+    (λ c. omega (arith, joining-fits (c .before .loop .i - 1) (omega arith) (c .before .loop .inv)))
+    (λ c. omega (arith, c .before .loop .inv .few))
     (λ c. search needs)
-    cast-x
-    add-x-2
+    (λ c. omega (arith, byte c))
+    (λ c. omega (arith, byte c, joining-fits (c .before .before .loop .i - 1) (omega arith) (c .before .before .loop .inv)))
     (λ c. search needs)
     loop-again
     returns)

@@ -54,59 +54,14 @@ so-far c = c .before .loop2 .inv .1 _ (c .before .before .before .loop .inv .1)
 small : (c : tie.In-loop2 Inv-loop2 μ-loop2 Inv-loop μ-loop) → getD (c .before .loop2 .map) (c .before .loop2 .at + trailingZeros 64 (c .before .loop2 .rest)) 0 < classLimit
 small c = splitting-below (so-far c .done) (split-run (so-far c) (found c))
 
-cast-zeros : tie.Need-cast-zeros Inv-loop2 μ-loop2 Inv-loop μ-loop
-cast-zeros c = omega (arith, inside c)
-
-add-b : tie.Need-add-b Inv-loop2 μ-loop2 Inv-loop μ-loop
-add-b c = omega (arith, found c .byte)
-
-element-copy-out-key : tie.Need-element-copy-out-key Inv-loop2 μ-loop2 Inv-loop μ-loop
-element-copy-out-key c = omega (arith, found c .byte)
-
-cast-key : tie.Need-cast-key Inv-loop2 μ-loop2 Inv-loop μ-loop
-cast-key c = omega (arith, small (c .before))
-
-mul-key : tie.Need-mul-key Inv-loop2 μ-loop2 Inv-loop μ-loop
-mul-key c = omega (arith, small (c .before))
-
 bit-requires : tie.Need-bit-requires Inv-loop2 μ-loop2 Inv-loop μ-loop
 bit-requires c κs = (omega (arith, found (c .before) .byte), search needs)
-
-add-key : tie.Need-add-key Inv-loop2 μ-loop2 Inv-loop μ-loop
-add-key c = omega (arith, small (c .before .before))
-
-array-read-name : tie.Need-array-read-name Inv-loop2 μ-loop2 Inv-loop μ-loop
-array-read-name c = omega (arith, small (c .before .before))
 
 returns : tie.Need-returns Inv-loop2 μ-loop2 Inv-loop μ-loop
 returns c = let i = c .before .before .before .before in splitting-full (so-far i .done) (split-run (so-far i) (found i)) (c .before .before .bit .ensures .0) (c .before .if1 .taken) (c .if2 .taken)
 
-cast-map : tie.Need-cast-map Inv-loop2 μ-loop2 Inv-loop μ-loop
-cast-map c = omega (arith, so-far (c .before .before .before .before) .done .table .few)
-
-element-write-map : tie.Need-element-write-map Inv-loop2 μ-loop2 Inv-loop μ-loop
-element-write-map c = omega (arith, found (c .before .before .before .before) .byte)
-
-add-k : tie.Need-add-k Inv-loop2 μ-loop2 Inv-loop μ-loop
-add-k c = omega (arith, so-far (c .before .before .before .before) .done .table .few)
-
-cast-names : tie.Need-cast-names Inv-loop2 μ-loop2 Inv-loop μ-loop
-cast-names c = omega (arith, so-far (c .before .before .before .before) .done .table .few)
-
-array-write-names : tie.Need-array-write-names Inv-loop2 μ-loop2 Inv-loop μ-loop
-array-write-names c = omega (arith, small (c .before .before .before .before))
-
-element-write-map-2 : tie.Need-element-write-map-2 Inv-loop2 μ-loop2 Inv-loop μ-loop
-element-write-map-2 c = omega (arith, found (c .before .before .before) .byte)
-
 shr-rest : tie.Need-shr-rest Inv-loop2 μ-loop2 Inv-loop μ-loop
 shr-rest c = omega (arith, inside (c .before .before .before), c .before .before .before .before .loop2 .inv .0 .from)
-
-add-at : tie.Need-add-at Inv-loop2 μ-loop2 Inv-loop μ-loop
-add-at c = omega (arith, found (c .before .before .before) .byte)
-
-loop2-less : tie.Need-loop2-less Inv-loop2 μ-loop2 Inv-loop μ-loop
-loop2-less c = omega (arith, inside (c .before .before .before))
 
 loop2-again : tie.Need-loop2-again Inv-loop2 μ-loop2 Inv-loop μ-loop
 loop2-again c = let i = c .before .before .before in
@@ -137,25 +92,25 @@ split-spec =
     (λ c. search needs)
     (λ c. search needs)
     loop2-holds
-    cast-zeros
-    add-b
-    element-copy-out-key
-    cast-key
-    mul-key
+    (λ c. omega (arith, inside c))
+    (λ c. omega (arith, found c .byte))
+    (λ c. omega (arith, found c .byte))
+    (λ c. omega (arith, small (c .before)))
+    (λ c. omega (arith, small (c .before)))
     bit-requires
-    add-key
-    array-read-name
+    (λ c. omega (arith, small (c .before .before)))
+    (λ c. omega (arith, small (c .before .before)))
     returns
-    cast-map
-    element-write-map
-    add-k
-    cast-names
-    array-write-names
+    (λ c. omega (arith, so-far (c .before .before .before .before) .done .table .few))
+    (λ c. omega (arith, found (c .before .before .before .before) .byte))
+    (λ c. omega (arith, so-far (c .before .before .before .before) .done .table .few))
+    (λ c. omega (arith, so-far (c .before .before .before .before) .done .table .few))
+    (λ c. omega (arith, small (c .before .before .before .before)))
     (λ c. search needs)
-    element-write-map-2
+    (λ c. omega (arith, found (c .before .before .before) .byte))
     shr-rest
-    add-at
-    loop2-less
+    (λ c. omega (arith, found (c .before .before .before) .byte))
+    (λ c. omega (arith, inside (c .before .before .before)))
     loop2-again
     (λ c. search needs)
     (λ c. search needs)
