@@ -1,8 +1,10 @@
 -- Grouping. A split reads the bytes run by run: the key of a run has a class already, or takes the next number. A position more splits the classes so far.
 --   class-below, class-used: a class is below their number, and each has a byte
---   Splitting: the loops of a split: the classes of the keys of the bytes below x, where a run begins, and the table of their names
---   splitting-none, splitting-below, splitting-old, splitting-new, splitting-full: their turns
---   Split, split-at, split-run, split-pass, split-all: the same at any byte b, which may be within a run
+--   Table: the keys of the classes so far, and their names
+--   RunsSplit: the runs before x, where one begins, are split
+--   runs-none, runs-below, runs-old, runs-new, runs-full: no run yet; a run more
+--   Splitting: the loops of a split: the runs that end below b are split
+--   splitting-at, splitting-run, splitting-pass, splitting-all: their turns
 --   like-key: splitting by a position
 --   group-none, group-below, group-next, group-many: the loop over the positions
 --   spread-more, group-spread: the classes spread over the bytes
@@ -95,7 +97,8 @@ module _ {names lead : List ℕ} {k key : ℕ} (t : Table names lead k) (room : 
       unnamed : (i : ℕ) → (i ≡ key → ⊥) → getD (set names key (k + 1)) i 0 ≡ getD names i 0
       unnamed i d = getD-set-other names key i (k + 1) 0 d
 
-pub record Splitting (m : List ℕ) (p : ℕ) (ends old names map : List ℕ) (k x : ℕ) : Type 0 where
+-- the runs before x are split, and each byte there has its class at the end of its run
+pub record RunsSplit (m : List ℕ) (p : ℕ) (ends old names map : List ℕ) (k x : ℕ) : Type 0 where
   pub last : isEnd ends lastByte ≡ true
   pub below : ClassesBelow (endOf ends) old
   pub size : length map ≡ byteValues
@@ -108,9 +111,9 @@ pub record Splitting (m : List ℕ) (p : ℕ) (ends old names map : List ℕ) (k
   pub numbered : Numbered Same (keyOf m p (endOf ends) old) (λ a. getD map (endOf ends a) 0) (λ v. getD lead v 0) 0 k x
 
 -- no byte yet
-pub splitting-none : (m : List ℕ) (p : ℕ) (ends old : List ℕ) → isEnd ends lastByte ≡ true → length old ≡ byteValues → ClassesBelow (endOf ends) old
-    → Splitting m p ends old (replicate (2 * classLimit) 0) old 0 0
-splitting-none m p ends old last size below = record {
+pub runs-none : (m : List ℕ) (p : ℕ) (ends old : List ℕ) → isEnd ends lastByte ≡ true → length old ≡ byteValues → ClassesBelow (endOf ends) old
+    → RunsSplit m p ends old (replicate (2 * classLimit) 0) old 0 0
+runs-none m p ends old last size below = record {
   last = last;
   below = below;
   size = size;
@@ -129,13 +132,13 @@ splitting-none m p ends old last size below = record {
 }
 
 -- e: the end of the run that begins at x
-module _ {m : List ℕ} {p : ℕ} {ends old names map : List ℕ} {k x e : ℕ} (s : Splitting m p ends old names map k x) (r : RunEnd ends x e) where
+module _ {m : List ℕ} {p : ℕ} {ends old names map : List ℕ} {k x e : ℕ} (s : RunsSplit m p ends old names map k x) (r : RunEnd ends x e) where
   in-run : (a : ℕ) → x ≤ a → a ≤ e → endOf ends a ≡ e
   in-run = end-inside ends (s .last) r
 
   -- its old class is below 64
-  pub splitting-below : getD map e 0 < classLimit
-  splitting-below = omega (arith, s .ahead e (r .upto), rw (in-run x (omega arith) (r .upto)) at (s .below x (omega (arith, r .upto, r .byte))))
+  pub runs-below : getD map e 0 < classLimit
+  runs-below = omega (arith, s .ahead e (r .upto), rw (in-run x (omega arith) (r .upto)) at (s .below x (omega (arith, r .upto, r .byte))))
 
   -- the class v at the end: of the bytes before, of those of the run, and after it
   kept : (v a : ℕ) → a < x → getD (set map e v) (endOf ends a) 0 ≡ getD map (endOf ends a) 0
@@ -151,9 +154,9 @@ module _ {m : List ℕ} {p : ℕ} {ends old names map : List ℕ} {k x e : ℕ} 
   whole a h = elim (split a x) [ inl l ↦ omega (arith, s .whole a l, r .upto) | inr l ↦ omega (arith, in-run a l (omega arith)) ]
 
   -- the run is named
-  splitting-more : {names′ : List ℕ} {k′ : ℕ} (v : ℕ) (lead : List ℕ) → Table names′ lead k′
-      → Numbered Same (keyOf m p (endOf ends) old) (λ a. getD (set map e v) (endOf ends a) 0) (λ w. getD lead w 0) 0 k′ (e + 1) → Splitting m p ends old names′ (set map e v) k′ (e + 1)
-  splitting-more v lead t n = record {
+  runs-more : {names′ : List ℕ} {k′ : ℕ} (v : ℕ) (lead : List ℕ) → Table names′ lead k′
+      → Numbered Same (keyOf m p (endOf ends) old) (λ a. getD (set map e v) (endOf ends a) 0) (λ w. getD lead w 0) 0 k′ (e + 1) → RunsSplit m p ends old names′ (set map e v) k′ (e + 1)
+  runs-more v lead t n = record {
     last = s .last;
     below = s .below;
     size = length-set map e v ∙ s .size;
@@ -171,12 +174,12 @@ module _ {m : List ℕ} {p : ℕ} {ends old names map : List ℕ} {k x e : ℕ} 
     at a h l = rw (in-run a h l) (ap₂ (λ (z w : ℕ). 2 * z + w) (s .ahead e (r .upto)) ey)
 
     -- the key has a class
-    pub splitting-old : (getD names (2 * getD map e 0 + y) 0 ≡ 0 → ⊥)
-        → Splitting m p ends old names (set map e (getD names (2 * getD map e 0 + y) 0 - 1)) k (e + 1)
-    splitting-old ne =
+    pub runs-old : (getD names (2 * getD map e 0 + y) 0 ≡ 0 → ⊥)
+        → RunsSplit m p ends old names (set map e (getD names (2 * getD map e 0 + y) 0 - 1)) k (e + 1)
+    runs-old ne =
         let v = getD names (2 * getD map e 0 + y) 0 - 1 in
         let (most, q) = s .table .known (2 * getD map e 0 + y) ne in
-        splitting-more v (s .lead) (s .table)
+        runs-more v (s .lead) (s .table)
         (numbered-on (numbered-same (s .numbered) (keyOf m p (endOf ends) old) (λ a. getD (set map e v) (endOf ends a) 0) (λ w. getD (s .lead) w 0) (λ a h. refl) (kept v) (λ w h. refl)) (e + 1)
         (omega (arith, r .upto)) (λ a h l. rw (here v a l (omega arith)) (omega arith, q ∙ at a l (omega arith))))
 
@@ -186,46 +189,46 @@ module _ {m : List ℕ} {p : ℕ} {ends old names map : List ℕ} {k x e : ℕ} 
       fresh v h q = s .table .new (2 * getD map e 0 + y) z v h (q ∙ sym (at x (omega arith) (r .upto)))
 
       -- the key takes the next class
-      pub splitting-new : (k ≡ classLimit → ⊥) → Splitting m p ends old (set names (2 * getD map e 0 + y) (k + 1)) (set map e k) (k + 1) (e + 1)
-      splitting-new ne =
+      pub runs-new : (k ≡ classLimit → ⊥) → RunsSplit m p ends old (set names (2 * getD map e 0 + y) (k + 1)) (set map e k) (k + 1) (e + 1)
+      runs-new ne =
           let key = 2 * getD map e 0 + y in
-          let room : key < 2 * classLimit = omega (arith, splitting-below, bit-small m p e) in
+          let room : key < 2 * classLimit = omega (arith, runs-below, bit-small m p e) in
           let own = lead-own (s .table) room ne in
-          splitting-more k (set (s .lead) k key) (table-more (s .table) room ne)
+          runs-more k (set (s .lead) k key) (table-more (s .table) room ne)
           (numbered-on (numbered-new (s .numbered) (keyOf m p (endOf ends) old) (λ a. getD (set map e k) (endOf ends a) 0) (λ v. getD (set (s .lead) k key) v 0) (λ a h. refl) (kept k)
           (lead-kept (s .table) room ne) (here k x (omega arith) (r .upto)) (own ∙ at x (omega arith) (r .upto)) refl fresh) (e + 1) (omega (arith, r .upto))
           (λ a h l. rw (here k a (omega arith) (omega arith)) (omega arith, own ∙ at a (omega arith) (omega arith))))
 
       -- a 65th class
-      pub splitting-full : k ≡ classLimit → Over classLimit (λ (a : ℕ). a < byteValues) (Key m p (endOf ends) old)
-      splitting-full q =
+      pub runs-full : k ≡ classLimit → Over classLimit (λ (a : ℕ). a < byteValues) (Key m p (endOf ends) old)
+      runs-full q =
           let came : (v : ℕ) → v < k → Came (keyOf m p (endOf ends) old) (λ a. getD map (endOf ends a) 0) (λ w. getD (s .lead) w 0) v x = λ v h. s .numbered .came v h (omega arith) in
           rw q at (over-one (λ (a : ℕ). a < byteValues) (Key m p (endOf ends) old) k (λ v h. came v h .thing) x (λ v h. omega (arith, came v h .inside, s .byte)) (omega (arith, r .upto, r .byte))
           (λ v w h l lt u. s .numbered .apart v w l lt (sym (came v h .leads) ∙ u ∙ came w l .leads)) (λ v h u. fresh v h (sym (came v h .leads) ∙ u)))
 
--- the runs that end below b are split; the next begins at x
-pub record Split (m : List ℕ) (p : ℕ) (ends old names map : List ℕ) (k b : ℕ) : Type 0 where
+-- the next run begins at x, and goes on at b
+pub record Splitting (m : List ℕ) (p : ℕ) (ends old names map : List ℕ) (k b : ℕ) : Type 0 where
   pub x : ℕ
   pub upto : x ≤ b
   pub none : NoEnd ends x b
-  pub done : Splitting m p ends old names map k x
+  pub done : RunsSplit m p ends old names map k x
 
 -- a run begins here
-pub split-at : {m : List ℕ} {p : ℕ} {ends old names map : List ℕ} {k b : ℕ} → Splitting m p ends old names map k b → Split m p ends old names map k b
-split-at {b = b} s = record { x = b; upto = omega arith; none = λ c h l. absurd (omega arith); done = s }
+pub splitting-at : {m : List ℕ} {p : ℕ} {ends old names map : List ℕ} {k b : ℕ} → RunsSplit m p ends old names map k b → Splitting m p ends old names map k b
+splitting-at {b = b} s = record { x = b; upto = omega arith; none = λ c h l. absurd (omega arith); done = s }
 
-module _ {m : List ℕ} {p : ℕ} {ends old names map : List ℕ} {k b : ℕ} (s : Split m p ends old names map k b) where
+module _ {m : List ℕ} {p : ℕ} {ends old names map : List ℕ} {k b : ℕ} (s : Splitting m p ends old names map k b) where
   -- where the next run ends
-  pub split-run : {e : ℕ} → RunEnd ends b e → RunEnd ends (s .x) e
-  split-run = run-longer (s .x) (s .upto) (s .none)
+  pub splitting-run : {e : ℕ} → RunEnd ends b e → RunEnd ends (s .x) e
+  splitting-run = run-longer (s .x) (s .upto) (s .none)
 
   -- no end up to c
-  pub split-pass : (c : ℕ) → b ≤ c → NoEnd ends b c → Split m p ends old names map k c
-  split-pass c h n = record { x = s .x; upto = omega (arith, s .upto); none = none-then ends (s .x) b c (s .none) n; done = s .done }
+  pub splitting-pass : (c : ℕ) → b ≤ c → NoEnd ends b c → Splitting m p ends old names map k c
+  splitting-pass c h n = record { x = s .x; upto = omega (arith, s .upto); none = none-then ends (s .x) b c (s .none) n; done = s .done }
 
   -- all bytes
-  pub split-all : byteValues ≤ b → Grouped (Key m p (endOf ends) old) (endOf ends) map k
-  split-all h =
+  pub splitting-all : byteValues ≤ b → Grouped (Key m p (endOf ends) old) (endOf ends) map k
+  splitting-all h =
       let q : s .x ≡ byteValues = elim (split (s .x) byteValues) [
         | inl l ↦ omega (arith, before-last ends (s .x) b (s .done .last) l (s .none))
         | inr l ↦ omega (arith, s .done .byte)

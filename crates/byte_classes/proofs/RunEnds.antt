@@ -15,10 +15,11 @@ use Rattle.byte_runs.proofs.Ends.{before-last, run-longer}
 use Rattle.byte_classes.specs.Group.{endFrom, endOf}
 
 -- a byte has one end
-pub run-one : {ends : List ℕ} {b d e : ℕ} → RunEnd ends b d → RunEnd ends b e → d ≡ e
+run-one : {ends : List ℕ} {b d e : ℕ} → RunEnd ends b d → RunEnd ends b e → d ≡ e
 run-one {d = d} {e} x y = level d e (λ l. true≢false (sym (x .end) ∙ y .before d l (x .upto))) (λ l. true≢false (sym (y .end) ∙ x .before e l (y .upto)))
 
 module _ (ends : List ℕ) (last : isEnd ends lastByte ≡ true) where
+  -- n bytes are left
   run-from : (n b : ℕ) → b + n ≡ byteValues → b < byteValues → RunEnd ends b (endFrom ends n b)
   unfolding endFrom
   run-from zero b e h = absurd (omega arith)
@@ -29,10 +30,12 @@ module _ (ends : List ℕ) (last : isEnd ends lastByte ≡ true) where
         rw f (run-longer b (omega arith) none (run-from n (suc b) (omega arith) (before-last ends b (suc b) last h none))))
   ]
 
-  pub end-run : (b : ℕ) → b < byteValues → RunEnd ends b (endOf ends b)
+  -- the end that is defined
+  end-run : (b : ℕ) → b < byteValues → RunEnd ends b (endOf ends b)
   end-run b h = run-from (byteValues - b) b (omega arith) h
 
-  pub end-is : {b e : ℕ} → RunEnd ends b e → endOf ends b ≡ e
+  -- and there is no other
+  end-is : {b e : ℕ} → RunEnd ends b e → endOf ends b ≡ e
   end-is {b} r = run-one (end-run b (omega (arith, r .upto, r .byte))) r
 
   -- the bytes of a run have one end

@@ -1,5 +1,5 @@
 // Runs of byte values: stretches that every position holds wholly or not at all. Neighbouring byte values that no position tells apart are split, and given
-// their masks, once. A run is known by its last byte, its end; the ends are the bits of four words.
+// their masks, once. A run is known by its last byte, its end; the ends are kept as bits, 64 byte values a word.
 ghost use mathlib.Core.Path.{_≡_};
 ghost use mathlib.Core.Bool.{true};
 ghost use Prim.Native.Nat.{_*_, _<_, _≤_, _+_};
@@ -39,8 +39,7 @@ fn word(bytes: &[u8], at: usize) -> u64
     x
 }
 
-// The ends so far, and b besides where the position p + 1 holds one of b and b + 1 and not the other. What it says of 255, after which the byte set is over, no
-// one asks.
+// The ends so far, and b besides where the position p + 1 holds one of b and b + 1 and not the other. 255, after which the byte set is over, is an end anyway.
 fn note(bytes: &[u8], p: usize, ends: [u64; END_WORDS]) -> [u64; END_WORDS]
     requires { ⌜ p * byteSet + byteSet < length (now bytes) ⌝ }
     ensures { λ r. ⌜ EndsNoted (now (bytes .entry)) p ends r byteValues ⌝ }
