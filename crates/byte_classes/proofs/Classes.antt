@@ -2,13 +2,13 @@
 --   class-below, class-used: a class is below their number, and each has a byte
 --   Table: the keys of the classes so far, and their names
 --   RunsSplit: the runs before x, where one begins, are split
---   runs-none, runs-below, runs-old, runs-new, runs-full: no run yet; a run more
---   Splitting: the loops of a split: the runs that end below b are split
---   splitting-at, splitting-run, splitting-pass, splitting-all: their turns
+--   runs-below, runs-old, runs-new, runs-full: a run more
+--   Splitting, SplittingWord: the loops of a split: the runs that end before a word are split, and of those that end in it some
+--   splitting-none, splitting-all, word-none, word-all, word-run, word-more: their turns
 --   like-key: splitting by a position
 --   group-none, group-below, group-next, group-many: the loop over the positions
 --   spread-more, group-spread: the classes spread over the bytes
-use Prim.Native.Nat.{ℕ, zero, suc, _+_, _-_, _*_, _≤_, _<_}
+use Prim.Native.Nat.{ℕ, zero, suc, _+_, _-_, _*_, _^_, _≤_, _<_}
 use mathlib.Core.Path.{_≡_, refl, sym, ap₂, subst, _∙_}
 use mathlib.Core.Bool.{true}
 use mathlib.Core.List.{List}
@@ -16,6 +16,8 @@ use mathlib.Core.Logic.{inl, inr, _↔_}
 use native.Mathlib.Omega.{arith}
 use native.Mathlib.Decide.{ℕ-discrete}
 use borrow.Author.Count.{below-more}
+use lib.Bits.{bitAnd}
+use lib.Count.{trailingZeros}
 use lib.ListN.{length, getD, set, length-set, replicate, length-replicate}
 use lib.Seq.{getD-set-same, getD-set-other}
 use Rattle.scope.specs.Limits.{byteValues, classLimit}
@@ -31,7 +33,7 @@ use Rattle.buffers.proofs.Numbered.{numbered-none, numbered-same, numbered-new,
 use Rattle.sets.specs.Layout.{bitAt}
 use Rattle.sets.proofs.HeldBits.{bit-small}
 use Rattle.byte_runs.specs.Runs.{lastByte, isEnd, NoEnd, RunEnd, Like}
-use Rattle.byte_runs.proofs.Ends.{none-then, before-last, run-longer}
+use Rattle.byte_runs.proofs.Ends.{Rest, rest-start, rest-none, rest-in, rest-end, rest-next, before-last}
 use Rattle.byte_classes.specs.Group.{endOf, ownPlace, Key, Classes, Grouped, GroupAnswer, ClassesBelow}
 use Rattle.byte_classes.specs.declared.Counted.{Counted}
 use Rattle.byte_classes.specs.declared.Counted.the-variants.{Few, Many}
@@ -110,27 +112,6 @@ pub record RunsSplit (m : List ℕ) (p : ℕ) (ends old names map : List ℕ) (k
   pub table : Table names lead k
   pub numbered : Numbered Same (keyOf m p (endOf ends) old) (λ a. getD map (endOf ends a) 0) (λ v. getD lead v 0) 0 k x
 
--- no byte yet
-pub runs-none : (m : List ℕ) (p : ℕ) (ends old : List ℕ) → isEnd ends lastByte ≡ true → length old ≡ byteValues → ClassesBelow (endOf ends) old
-    → RunsSplit m p ends old (replicate (2 * classLimit) 0) old 0 0
-runs-none m p ends old last size below = record {
-  last = last;
-  below = below;
-  size = size;
-  byte = omega arith;
-  whole = λ a h. absurd (omega arith);
-  ahead = λ a h. refl;
-  lead = replicate classLimit 0;
-  table = record {
-    size = length-replicate {A = ℕ} (2 * classLimit) 0;
-    leads = length-replicate {A = ℕ} classLimit 0;
-    few = omega arith;
-    new = λ i e v h. absurd (omega arith);
-    known = λ i h. absurd (h (zeros (2 * classLimit) i));
-  };
-  numbered = numbered-none (omega arith);
-}
-
 -- e: the end of the run that begins at x
 module _ {m : List ℕ} {p : ℕ} {ends old names map : List ℕ} {k x e : ℕ} (s : RunsSplit m p ends old names map k x) (r : RunEnd ends x e) where
   in-run : (a : ℕ) → x ≤ a → a ≤ e → endOf ends a ≡ e
@@ -206,31 +187,57 @@ module _ {m : List ℕ} {p : ℕ} {ends old names map : List ℕ} {k x e : ℕ} 
           rw q at (over-one (λ (a : ℕ). a < byteValues) (Key m p (endOf ends) old) k (λ v h. came v h .thing) x (λ v h. omega (arith, came v h .inside, s .byte)) (omega (arith, r .upto, r .byte))
           (λ v w h l lt u. s .numbered .apart v w l lt (sym (came v h .leads) ∙ u ∙ came w l .leads)) (λ v h u. fresh v h (sym (came v h .leads) ∙ u)))
 
--- the next run begins at x, and goes on at b
-pub record Splitting (m : List ℕ) (p : ℕ) (ends old names map : List ℕ) (k b : ℕ) : Type 0 where
+-- before the word number w: the next run begins at x, and has no end so far
+pub record Splitting (m : List ℕ) (p : ℕ) (ends old names map : List ℕ) (k w : ℕ) : Type 0 where
   pub x : ℕ
-  pub upto : x ≤ b
-  pub none : NoEnd ends x b
+  pub upto : x ≤ 64 * w
+  pub none : NoEnd ends x (64 * w)
   pub done : RunsSplit m p ends old names map k x
 
--- a run begins here
-pub splitting-at : {m : List ℕ} {p : ℕ} {ends old names map : List ℕ} {k b : ℕ} → RunsSplit m p ends old names map k b → Splitting m p ends old names map k b
-splitting-at {b = b} s = record { x = b; upto = omega arith; none = λ c h l. absurd (omega arith); done = s }
+-- in that word: `rest` has the ends that are left
+pub record SplittingWord (m : List ℕ) (p : ℕ) (ends old names map : List ℕ) (k w rest : ℕ) : Type 0 where
+  pub x : ℕ
+  pub upto : x ≤ 64 * (w + 1)
+  pub none : NoEnd ends x (64 * w)
+  pub left : Rest ends w rest x
+  pub done : RunsSplit m p ends old names map k x
 
-module _ {m : List ℕ} {p : ℕ} {ends old names map : List ℕ} {k b : ℕ} (s : Splitting m p ends old names map k b) where
-  -- where the next run ends
-  pub splitting-run : {e : ℕ} → RunEnd ends b e → RunEnd ends (s .x) e
-  splitting-run = run-longer (s .x) (s .upto) (s .none)
+-- no byte yet
+pub splitting-none : (m : List ℕ) (p : ℕ) (ends old : List ℕ) → isEnd ends lastByte ≡ true → length old ≡ byteValues → ClassesBelow (endOf ends) old
+    → Splitting m p ends old (replicate (2 * classLimit) 0) old 0 0
+splitting-none m p ends old last size below = record {
+  x = 0;
+  upto = omega arith;
+  none = λ c h. absurd (omega arith);
+  done = record {
+    last = last;
+    below = below;
+    size = size;
+    byte = omega arith;
+    whole = λ a h. absurd (omega arith);
+    ahead = λ a h. refl;
+    lead = replicate classLimit 0;
+    table = record {
+      size = length-replicate {A = ℕ} (2 * classLimit) 0;
+      leads = length-replicate {A = ℕ} classLimit 0;
+      few = omega arith;
+      new = λ i e v h. absurd (omega arith);
+      known = λ i h. absurd (h (zeros (2 * classLimit) i));
+    };
+    numbered = numbered-none (omega arith);
+  };
+}
 
-  -- no end up to c
-  pub splitting-pass : (c : ℕ) → b ≤ c → NoEnd ends b c → Splitting m p ends old names map k c
-  splitting-pass c h n = record { x = s .x; upto = omega (arith, s .upto); none = none-then ends (s .x) b c (s .none) n; done = s .done }
+module _ {m : List ℕ} {p : ℕ} {ends old names map : List ℕ} {k w : ℕ} (s : Splitting m p ends old names map k w) where
+  -- all ends of the word are left
+  pub word-none : getD ends w 0 < 2 ^ 64 → SplittingWord m p ends old names map k w (getD ends w 0)
+  word-none small = record { x = s .x; upto = omega (arith, s .upto); none = s .none; left = rest-start ends w (s .x) (s .upto) small; done = s .done }
 
   -- all bytes
-  pub splitting-all : byteValues ≤ b → Grouped (Key m p (endOf ends) old) (endOf ends) map k
+  pub splitting-all : byteValues ≤ 64 * w → Grouped (Key m p (endOf ends) old) (endOf ends) map k
   splitting-all h =
       let q : s .x ≡ byteValues = elim (split (s .x) byteValues) [
-        | inl l ↦ omega (arith, before-last ends (s .x) b (s .done .last) l (s .none))
+        | inl l ↦ omega (arith, before-last ends (s .x) (64 * w) (s .done .last) l (s .none))
         | inr l ↦ omega (arith, s .done .byte)
       ] in
       let n = rw q at (s .done .numbered) in
@@ -239,6 +246,27 @@ module _ {m : List ℕ} {p : ℕ} {ends old names map : List ℕ} {k b : ℕ} (s
         few = s .done .table .few;
         classes = record { same = numbered-one n (λ a c. sym) (λ a c d. _∙_); smallest = numbered-arrival n; count = numbered-met n };
       }
+
+module _ {m : List ℕ} {p : ℕ} {ends old names map : List ℕ} {k w rest : ℕ} (s : SplittingWord m p ends old names map k w rest) where
+  -- no end is left
+  pub word-all : rest ≡ 0 → Splitting m p ends old names map k (w + 1)
+  word-all z = record { x = s .x; upto = s .upto; none = rest-none (s .left) (s .none) z; done = s .done }
+
+  module _ (some : rest ≡ 0 → ⊥) where
+    -- where the next run ends
+    pub word-run : 64 * (w + 1) ≤ byteValues → RunEnd ends (s .x) (64 * w + trailingZeros 64 rest)
+    word-run = rest-end (s .left) (s .none) some
+
+    -- it is split
+    pub word-more : {names′ map′ : List ℕ} {k′ : ℕ} → RunsSplit m p ends old names′ map′ k′ (64 * w + trailingZeros 64 rest + 1)
+        → SplittingWord m p ends old names′ map′ k′ w (bitAnd rest (rest - 1))
+    word-more d = record {
+      x = 64 * w + trailingZeros 64 rest + 1;
+      upto = omega (arith, rest-in (s .left) (s .none) some);
+      none = λ c h l. absurd (omega arith);
+      left = rest-next (s .left) (s .none) some;
+      done = d;
+    }
 
 -- ---- the loop over the positions
 

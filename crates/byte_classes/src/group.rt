@@ -30,10 +30,8 @@ fn split(bytes: &[u8], p: usize, ends: [u64; END_WORDS], map: &mut [u8; Machine:
     let mut w: usize = 0;
     while w < END_WORDS {
         let mut rest = ends[w];
-        let mut at = 64 * w;
         while rest != 0 {
-            let zeros = u64::trailing_zeros(rest) as usize;
-            let b = at + zeros;
+            let b = 64 * w + u64::trailing_zeros(rest) as usize;
             let key = 2 * (map[b] as usize) + byte_runs::bit(bytes, p, b);
             let name = names[key];
             if name == 0 {
@@ -46,8 +44,7 @@ fn split(bytes: &[u8], p: usize, ends: [u64; END_WORDS], map: &mut [u8; Machine:
             } else {
                 map[b] = name - 1;
             }
-            rest = (rest >> zeros) / 2;
-            at = b + 1;
+            rest = rest & (rest - 1);
         }
         w += 1;
     }

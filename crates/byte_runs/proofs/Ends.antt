@@ -11,20 +11,20 @@ use mathlib.Core.Path.{_≡_, refl, sym, ap, _∙_}
 use mathlib.Core.Bool.{true, false, true≢false}
 use mathlib.Core.List.{List}
 use mathlib.Core.Logic.{_⊎_, inl, inr}
-use native.Mathlib.Nat.{div-one}
+use native.Mathlib.Nat.{add-zero, div-one, zero-div, pow-suc, mod-eq-of-lt, div-mul-le-self}
 use native.Mathlib.Numerals.{add-one}
 use native.Mathlib.Omega.{arith}
 use native.Mathlib.Decide.{le-ind}
 use borrow.Author.Count.{below-more}
 use borrow.Author.Tests.{eqb-false}
-use lib.Bits.{bitOr, bitXor, or-step, xor-step, or-shr, xor-shr, block-half, block-odd}
+use lib.Bits.{bitOr, bitXor, bitAnd, or-step, xor-step, and-step, or-shr, xor-shr, and-self, and-le-l, block-half, block-odd}
 use lib.Count.{trailingZeros}
 use lib.ListN.{length, getD, set}
-use lib.Pow.{pow-add, pow-mono, shr-shr, shr-le, high}
+use lib.Pow.{pow-add, pow-mono, shr-shr, shl-shr, high}
 use lib.Seq.{getD-set-same, getD-set-other}
 use Rattle.scope.specs.Limits.{byteValues}
 use Rattle.scope.specs.Positions.Bits.{has}
-use Rattle.scope.proofs.Positions.Bits.{digit, has-shr, has-zero, has-small, trailing-none, trailing-one}
+use Rattle.scope.proofs.Positions.Bits.{digit, has-half, has-shr, has-zero, has-small, trailing-none, trailing-one}
 use Rattle.scope.proofs.Counting.Tests.{split, which}
 use Rattle.sets.specs.Layout.{byteSet, bitAt}
 use Rattle.byte_runs.specs.Runs.{lastByte, isEnd, NoEnd, RunEnd, EightBytes, Like, EndsNoted, RunsOf}
@@ -174,64 +174,105 @@ quiet-runs {m} {n} {ends} q = record {
 
 -- ---- the ends of one word
 
+-- twice a number has its bits one place higher
+double-low : (x : ℕ) → has (x * 2) 0 ≡ false
+double-low x = let e : x * 2 / 1 % 2 ≡ 0 = simp div-one (omega arith) in rw e
+
+double-high : (x j : ℕ) → has (x * 2) (suc j) ≡ has x j
+double-high x j = let e : x * 2 / 2 ≡ x = omega arith in rw e at (has-half (x * 2) j)
+
+-- y is n without its bits up to z, but the lowest
+abbrev Above : ℕ → ℕ → ℕ → Type 0
+Above y n z = (j : ℕ) → (j ≤ z → has y j ≡ false) × (z < j → has y j ≡ has n j)
+
+above-half : (n z y : ℕ) → Above y (n / 2) z → Above (y * 2) n (suc z)
+above-half n z y f zero = ((λ h. double-low y), λ h. absurd (omega arith))
+above-half n z y f (suc j) = ((λ h. double-high y j ∙ f j .0 (omega arith)), λ h. double-high y j ∙ f j .1 (omega arith) ∙ sym (has-half n j))
+
+above-odd : (n : ℕ) → Above (n / 2 * 2) n 0
+above-odd n zero = ((λ h. double-low (n / 2)), λ h. absurd (omega arith))
+above-odd n (suc j) = ((λ h. absurd (omega arith)), λ h. double-high (n / 2) j ∙ sym (has-half n j))
+
+-- a number without its lowest bit that is 1
+lowest-off : (k n : ℕ) → 0 < n → n < 2 ^ k → Above (bitAnd n (n - 1)) n (trailingZeros k n)
+unfolding trailingZeros
+lowest-off zero n h l = absurd (omega arith)
+lowest-off (suc k) n h l = elim (digit n) [
+  | inl e ↦
+      (let d : (n - 1) / 2 ≡ n / 2 - 1 = omega arith in
+      let q : bitAnd n (n - 1) ≡ bitAnd (n / 2) (n / 2 - 1) * 2 = omega (arith, rw (e, d) at (and-step n (n - 1))) in
+      rw (e, q) (above-half n (trailingZeros k (n / 2)) (bitAnd (n / 2) (n / 2 - 1)) (lowest-off k (n / 2) (omega arith) (omega (arith, pow-suc 2 k)))))
+  | inr e ↦
+      (let d : (n - 1) / 2 ≡ n / 2 = omega arith in
+      let c : (n - 1) % 2 ≡ 0 = omega arith in
+      let q : bitAnd n (n - 1) ≡ n / 2 * 2 = omega (arith, rw (d, and-self, c) at (and-step n (n - 1))) in
+      rw (e, q) (above-odd n))
+]
+
 pub record Rest (ends : List ℕ) (w rest b : ℕ) : Type 0 where
-  pub upto : b ≤ 64 * (w + 1)
-  pub from : 64 * w ≤ b
-  pub left : rest ≡ getD ends w 0 / 2 ^ (b - 64 * w)
+  pub small : rest < 2 ^ 64
+  pub passed : (j : ℕ) → 64 * w + j < b → has rest j ≡ false
+  pub ahead : (j : ℕ) → j < 64 → b ≤ 64 * w + j → has rest j ≡ isEnd ends (64 * w + j)
+
+-- a bit of a word
+word-bit : (ends : List ℕ) (w j : ℕ) → j < 64 → isEnd ends (64 * w + j) ≡ has (getD ends w 0) j
+word-bit ends w j h = let d : (64 * w + j) / 64 ≡ w = omega arith in let e : (64 * w + j) % 64 ≡ j = omega arith in rw (d, e)
 
 -- the whole word
-pub rest-start : (ends : List ℕ) (w : ℕ) → Rest ends w (getD ends w 0) (64 * w)
-rest-start ends w = record { upto = omega arith; from = omega arith; left = (let e : 64 * w - 64 * w ≡ 0 = omega arith in rw e (sym (div-one _))) }
+pub rest-start : (ends : List ℕ) (w b : ℕ) → b ≤ 64 * w → getD ends w 0 < 2 ^ 64 → Rest ends w (getD ends w 0) b
+rest-start ends w b h l = record { small = l; passed = λ j k. absurd (omega arith); ahead = λ j k y. sym (word-bit ends w j k) }
 
 -- its bits from b on
-pub rest-at : (ends : List ℕ) (b : ℕ) → Rest ends (b / 64) (getD ends (b / 64) 0 / 2 ^ (b % 64)) b
-rest-at ends b = record { upto = omega arith; from = omega arith; left = (let e : b - 64 * (b / 64) ≡ b % 64 = omega arith in rw e) }
+pub rest-from : (ends : List ℕ) (b : ℕ) → getD ends (b / 64) 0 < 2 ^ 64 → Rest ends (b / 64) (getD ends (b / 64) 0 / 2 ^ (b % 64) * 2 ^ (b % 64) % 2 ^ 64) b
+rest-from ends b l =
+    let s = b % 64 in
+    let a = getD ends (b / 64) 0 / 2 ^ s in
+    let q : a * 2 ^ s % 2 ^ 64 ≡ a * 2 ^ s = mod-eq-of-lt (omega (arith, div-mul-le-self (getD ends (b / 64) 0) (2 ^ s))) in
+    rw q (record {
+      small = omega (arith, div-mul-le-self (getD ends (b / 64) 0) (2 ^ s));
+      passed = λ j h. (let z : a * 2 ^ s / 2 ^ j % 2 ≡ 0 = rw add-zero at (lower-bit s a 0 j (omega arith)) ∙ rw zero-div in rw z);
+      ahead = λ j h k. (let e : j ≡ s + (j - s) = omega arith in
+          rw (word-bit ends (b / 64) j h, e) (sym (has-shr (a * 2 ^ s) s (j - s)) ∙ ap (λ (n : ℕ). has n (j - s)) (shl-shr a s) ∙ has-shr (getD ends (b / 64) 0) s (j - s)));
+    })
 
-module _ {ends : List ℕ} {w rest b : ℕ} (r : Rest ends w rest b) where
-  -- a bit that is left
-  rest-bit : (c : ℕ) → b ≤ c → c < 64 * (w + 1) → isEnd ends c ≡ has rest (c - b)
-  rest-bit c h l =
-      let d : c / 64 ≡ w = omega (arith, r .from) in
-      let e : c % 64 ≡ b - 64 * w + (c - b) = omega (arith, r .from) in
-      rw (d, e, r .left) (sym (has-shr (getD ends w 0) (b - 64 * w) (c - b)))
+-- no end before the word
+module _ {ends : List ℕ} {w rest b : ℕ} (r : Rest ends w rest b) (none : NoEnd ends b (64 * w)) where
+  -- a byte of the word that is not passed
+  rest-bit : (c : ℕ) → b ≤ c → 64 * w ≤ c → c < 64 * (w + 1) → isEnd ends c ≡ has rest (c - 64 * w)
+  rest-bit c h k l = let e : 64 * w + (c - 64 * w) ≡ c = omega arith in rw e at (sym (r .ahead (c - 64 * w) (omega arith) (omega arith)))
 
-  -- none is left
+  -- no bit is left
   pub rest-none : rest ≡ 0 → NoEnd ends b (64 * (w + 1))
-  rest-none z c l h = rest-bit c h l ∙ rw z (has-zero (c - b))
+  rest-none z c l h = elim (split c (64 * w)) [ inl k ↦ none c k h | inr k ↦ rest-bit c h k l ∙ rw z (has-zero (c - 64 * w)) ]
 
-  module _ (small : getD ends w 0 < 2 ^ 64) (some : rest ≡ 0 → ⊥) where
+  module _ (some : rest ≡ 0 → ⊥) where
     lowest : has rest (trailingZeros 64 rest) ≡ true
-    lowest = trailing-one 64 rest (omega arith) (omega (arith, r .left, shr-le (getD ends w 0) (b - 64 * w)))
+    lowest = trailing-one 64 rest (omega arith) (r .small)
 
     -- the lowest stands in the word
-    pub rest-in : b + trailingZeros 64 rest < 64 * (w + 1)
-    rest-in = omega (
-      arith,
-      r .from,
-      has-small (getD ends w 0) (b - 64 * w + trailingZeros 64 rest) 64
-          (sym (has-shr (getD ends w 0) (b - 64 * w) (trailingZeros 64 rest)) ∙ rw (← r .left) lowest) small,
-    )
+    pub rest-in : trailingZeros 64 rest < 64
+    rest-in = has-small rest (trailingZeros 64 rest) 64 lowest (r .small)
+
+    upto : b ≤ 64 * w + trailingZeros 64 rest
+    upto = elim (split (64 * w + trailingZeros 64 rest) b) [ inl k ↦ absurd (true≢false (sym lowest ∙ r .passed (trailingZeros 64 rest) k)) | inr k ↦ k ]
 
     -- it is the next end
-    pub rest-end : 64 * (w + 1) ≤ byteValues → RunEnd ends b (b + trailingZeros 64 rest)
-    rest-end h =
-        let e : b + trailingZeros 64 rest - b ≡ trailingZeros 64 rest = omega arith in
-        record {
-          upto = omega arith;
-          byte = omega (arith, rest-in);
-          end = rest-bit (b + trailingZeros 64 rest) (omega arith) rest-in ∙ rw e lowest;
-          before = λ c l k. rest-bit c k (omega (arith, rest-in)) ∙ trailing-none 64 rest (c - b) (omega arith);
-        }
+    pub rest-end : 64 * (w + 1) ≤ byteValues → RunEnd ends b (64 * w + trailingZeros 64 rest)
+    rest-end h = record {
+      upto = upto;
+      byte = omega (arith, rest-in);
+      end = sym (r .ahead (trailingZeros 64 rest) rest-in upto) ∙ lowest;
+      before = λ c l k. elim (split c (64 * w)) [ inl y ↦ none c y k | inr y ↦ rest-bit c k y (omega (arith, rest-in)) ∙ trailing-none 64 rest (c - 64 * w) (omega arith) ];
+    }
 
     -- and what is left after it
-    pub rest-next : Rest ends w (rest / 2 ^ trailingZeros 64 rest / 2) (b + trailingZeros 64 rest + 1)
+    pub rest-next : Rest ends w (bitAnd rest (rest - 1)) (64 * w + trailingZeros 64 rest + 1)
     rest-next =
-        let z = trailingZeros 64 rest in
-        let e : b + z + 1 - 64 * w ≡ b - 64 * w + z + 1 = omega (arith, r .from) in
+        let off = lowest-off 64 rest (omega arith) (r .small) in
         record {
-          upto = omega (arith, rest-in);
-          from = omega (arith, r .from);
-          left = rw e (ap (λ (n : ℕ). n / 2 ^ z / 2) (r .left) ∙ ap (λ (n : ℕ). n / 2) (shr-shr (getD ends w 0) (b - 64 * w) z) ∙ shr-shr (getD ends w 0) (b - 64 * w + z) 1);
+          small = omega (arith, r .small, and-le-l rest (rest - 1));
+          passed = λ j h. off j .0 (omega arith);
+          ahead = λ j h l. off j .1 (omega arith) ∙ r .ahead j h (omega (arith, upto));
         }
 
 -- no end in two parts side by side

@@ -78,12 +78,10 @@ pub fn end_of(ends: [u64; END_WORDS], b: usize) -> usize
     ensures { λ r. ⌜ RunEnd ends b r ⌝ }
 {
     let mut w = b / 64;
-    let mut x = b;
-    let mut rest = ends[w] >> (b % 64);
+    let mut rest = (ends[w] >> (b % 64)) << (b % 64);
     while rest == 0 {
         w += 1;
-        x = 64 * w;
         rest = ends[w];
     }
-    x + u64::trailing_zeros(rest) as usize
+    64 * w + u64::trailing_zeros(rest) as usize
 }
