@@ -9,9 +9,9 @@ use mathlib.Core.List.{List}
 use mathlib.Core.Logic.{inl, inr}
 use native.Mathlib.Omega.{arith}
 use Rattle.scope.specs.Limits.{byteValues}
-use Rattle.scope.proofs.Counting.Tests.{which, level}
+use Rattle.scope.proofs.Counting.Tests.{which, split, level}
 use Rattle.byte_runs.specs.Runs.{lastByte, isEnd, NoEnd, RunEnd, RunsOf}
-use Rattle.byte_runs.proofs.Ends.{before-last, run-longer}
+use Rattle.byte_runs.proofs.Ends.{before-last}
 use Rattle.byte_classes.specs.Group.{endFrom, endOf}
 
 -- a byte has one end
@@ -27,7 +27,13 @@ module _ (ends : List ℕ) (last : isEnd ends lastByte ≡ true) where
     | inl t ↦ rw t (record { upto = omega arith; byte = h; end = t; before = λ c l k. absurd (omega arith) })
     | inr f ↦
         (let none : NoEnd ends b (suc b) = λ c l k. (let q : c ≡ b = omega arith in rw q f) in
-        rw f (run-longer b (omega arith) none (run-from n (suc b) (omega arith) (before-last ends b (suc b) last h none))))
+        let r = run-from n (suc b) (omega arith) (before-last ends b (suc b) last h none) in
+        rw f (record {
+          upto = omega (arith, r .upto);
+          byte = r .byte;
+          end = r .end;
+          before = λ c l k. elim (split c (suc b)) [ inl y ↦ none c y k | inr y ↦ r .before c l y ];
+        }))
   ]
 
   -- the end that is defined

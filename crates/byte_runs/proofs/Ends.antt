@@ -1,11 +1,11 @@
 -- Runs. A byte is an end where a position tells it from the next; with no end in between, no position tells two bytes apart.
 --   Joining: the loop over eight bytes, from the last down: x has the bits of those from i on
 --   joining-none, joining-fits, joining-more, joining-all: its turns
---   noted-more: the ends of 64 byte values more
---   Quiet: where no end is, none of the first n positions tells a byte from the next; 255 is an end
---   quiet-none, quiet-more, quiet-runs: the loop over the positions, and what the runs then are
---   Rest: what is left of a word of ends, from the byte b on
---   rest-start, rest-in, rest-end, rest-next, rest-none: its lowest bit is the next end, and what is left after it; where none is left there is no end in the word
+--   noted-none, noted-more: the loop over the words of a byte set: the ends of 64 byte values more
+--   runs-none, runs-more: the loop over the positions
+--   Rest: of the ends of a word, those from b on
+--   rest-start, rest-from, rest-none, rest-in, rest-end, rest-next: the whole word, and from b on; where nothing is left there is no end; else its lowest bit is the next, and what is left after it
+--   before-last: where no end was met, 255 was not
 use Prim.Native.Nat.{ℕ, zero, suc, _+_, _-_, _*_, _/_, _%_, _^_, _≤_, _<_}
 use mathlib.Core.Path.{_≡_, refl, sym, ap, _∙_}
 use mathlib.Core.Bool.{true, false, true≢false}
@@ -121,55 +121,39 @@ module _ (m : List ℕ) (p w x : ℕ) (v : EightBytes m (p * byteSet + 8 * w) x)
 
 -- no byte value yet
 pub noted-none : (m : List ℕ) (p : ℕ) (old new : List ℕ) → EndsNoted m p old new 0
-noted-none m p old new = record { kept = λ b h. absurd (omega arith); same = λ b h. absurd (omega arith) }
+noted-none m p old new = record { none = λ b h. absurd (omega arith) }
 
 -- 64 byte values more
 pub noted-more : {m : List ℕ} {p x : ℕ} {old new : List ℕ} (w : ℕ) → EndsNoted m p old new (64 * w) → w < length new → EightBytes m (p * byteSet + 8 * w) x → x < 2 ^ 64
     → EndsNoted m p old (set new w (bitOr (getD old w 0) (bitXor x (getD m (p * byteSet + 8 * w + 8) 0 % 2 * 2 ^ 63 + x / 2)))) (64 * (w + 1))
 noted-more {m} {p} {x} {old} {new} w n h v small = record {
-  kept = λ b l z. elim (split b (64 * w)) [ inl k ↦ n .kept b k (before b k z) | inr k ↦ here b k l z .0 ];
-  same = λ b l z. elim (split b (64 * w)) [ inl k ↦ n .same b k (before b k z) | inr k ↦ here b k l z .1 ];
+  none = λ b l z. elim (split b (64 * w)) [
+    | inl k ↦ n .none b k (rw (getD-set-other new w (b / 64) (bitOr (getD old w 0) (bitXor x next)) 0 (λ e. omega arith)) at z)
+    | inr k ↦
+        (let d : b / 64 ≡ w = omega arith in
+        let e : 64 * w + b % 64 ≡ b = omega arith in
+        let (s, t) = edges-none (getD old w 0) x next (b % 64) (rw (d, getD-set-same new w (bitOr (getD old w 0) (bitXor x next)) 0 h) at z) in
+        (rw d s, rw e at (sym (own-bit m p w x v (b % 64) (omega arith)) ∙ t ∙ next-bit m p w x v small (b % 64) (omega arith))))
+  ];
 }
   where
     next : ℕ
     next = getD m (p * byteSet + 8 * w + 8) 0 % 2 * 2 ^ 63 + x / 2
 
-    word : ℕ
-    word = bitOr (getD old w 0) (bitXor x next)
-
-    before : (b : ℕ) → b < 64 * w → isEnd (set new w word) b ≡ false → isEnd new b ≡ false
-    before b k z = rw (getD-set-other new w (b / 64) word 0 (λ e. omega arith)) at z
-
-    here : (b : ℕ) → 64 * w ≤ b → b < 64 * (w + 1) → isEnd (set new w word) b ≡ false → (isEnd old b ≡ false) × (bitAt m p b ≡ bitAt m p (b + 1))
-    here b k l z =
-        let d : b / 64 ≡ w = omega arith in
-        let e : 64 * w + b % 64 ≡ b = omega arith in
-        let (s, t) = edges-none (getD old w 0) x next (b % 64) (rw (d, getD-set-same new w word 0 h) at z) in
-        (rw d s, rw e at (sym (own-bit m p w x v (b % 64) (omega arith)) ∙ t ∙ next-bit m p w x v small (b % 64) (omega arith)))
-
 -- ---- all positions
 
-pub record Quiet (m : List ℕ) (n : ℕ) (ends : List ℕ) : Type 0 where
-  pub last : isEnd ends lastByte ≡ true
-  pub same : (b : ℕ) → b < byteValues → isEnd ends b ≡ false → Like m n b (b + 1)
-
 -- no position
-pub quiet-none : (m ends : List ℕ) → isEnd ends lastByte ≡ true → Quiet m 0 ends
-quiet-none m ends e = record { last = e; same = λ b h z p l. absurd (omega arith) }
+pub runs-none : (m ends : List ℕ) → isEnd ends lastByte ≡ true → RunsOf (Like m 0) ends
+runs-none m ends e = record { last = e; alike = λ a b h l n p k. absurd (omega arith) }
 
--- one position more
-pub quiet-more : {m : List ℕ} {p : ℕ} {old new : List ℕ} → Quiet m p old → EndsNoted m p old new byteValues → Quiet m (p + 1) new
-quiet-more {m} {p} {old} {new} q x = record {
-  last = elim (which (isEnd new lastByte)) [ inl e ↦ e | inr e ↦ absurd (true≢false (sym (q .last) ∙ x .kept lastByte (omega arith) e)) ];
-  same = λ b h z. below-more (λ (i : ℕ). bitAt m i b ≡ bitAt m i (b + 1)) p (q .same b h (x .kept b h z)) (x .same b h z);
-}
-
--- with no end in between, two bytes are alike
-pub quiet-runs : {m : List ℕ} {n : ℕ} {ends : List ℕ} → Quiet m n ends → RunsOf (Like m n) ends
-quiet-runs {m} {n} {ends} q = record {
-  last = q .last;
-  alike = λ a b h. le-ind (λ (c : ℕ). c < byteValues → NoEnd ends a c → Like m n a c) (λ l j p k. refl)
-      (λ c l go s j p k. go (omega arith) (λ d w v. j d (omega arith) v) p k ∙ (let t = q .same c (omega arith) (j c (omega arith) l) p k in rw add-one at t)) b h;
+-- one position more: with no end in between, it holds both bytes or neither
+pub runs-more : {m : List ℕ} {p : ℕ} {old new : List ℕ} → RunsOf (Like m p) old → EndsNoted m p old new byteValues → RunsOf (Like m (p + 1)) new
+runs-more {m} {p} {old} {new} r x = record {
+  last = elim (which (isEnd new lastByte)) [ inl e ↦ e | inr e ↦ absurd (true≢false (sym (r .last) ∙ x .none lastByte (omega arith) e .0)) ];
+  alike = λ a b h l n.
+      below-more (λ (i : ℕ). bitAt m i a ≡ bitAt m i b) p (r .alike a b h l (λ c y z. x .none c (omega arith) (n c y z) .0))
+      (le-ind (λ (c : ℕ). c < byteValues → NoEnd new a c → bitAt m p a ≡ bitAt m p c) (λ y z. refl)
+      (λ c y go z f. go (omega arith) (λ d u v. f d (omega arith) v) ∙ rw add-one at (x .none c (omega arith) (f c (omega arith) y) .1)) b h l n);
 }
 
 -- ---- the ends of one word
@@ -181,7 +165,7 @@ double-low x = let e : x * 2 / 1 % 2 ≡ 0 = simp div-one (omega arith) in rw e
 double-high : (x j : ℕ) → has (x * 2) (suc j) ≡ has x j
 double-high x j = let e : x * 2 / 2 ≡ x = omega arith in rw e at (has-half (x * 2) j)
 
--- y is n without its bits up to z, but the lowest
+-- y has the bits of n after z, and none up to it
 abbrev Above : ℕ → ℕ → ℕ → Type 0
 Above y n z = (j : ℕ) → (j ≤ z → has y j ≡ false) × (z < j → has y j ≡ has n j)
 
@@ -275,14 +259,6 @@ module _ {ends : List ℕ} {w rest b : ℕ} (r : Rest ends w rest b) (none : NoE
           ahead = λ j h l. off j .1 (omega arith) ∙ r .ahead j h (omega (arith, upto));
         }
 
--- no end in two parts side by side
-pub none-then : (ends : List ℕ) (a b c : ℕ) → NoEnd ends a b → NoEnd ends b c → NoEnd ends a c
-none-then ends a b c n m x h l = elim (split x b) [ inl k ↦ n x k l | inr k ↦ m x h k ]
-
 -- where no end was met, 255 was not
 pub before-last : (ends : List ℕ) (b x : ℕ) → isEnd ends lastByte ≡ true → b < byteValues → NoEnd ends b x → x < byteValues
 before-last ends b x e h n = elim (split x byteValues) [ inl k ↦ k | inr k ↦ absurd (true≢false (sym e ∙ n lastByte (omega arith) (omega arith))) ]
-
--- with no end up to x, the end of its run is that of b
-pub run-longer : {ends : List ℕ} {x e : ℕ} (b : ℕ) → b ≤ x → NoEnd ends b x → RunEnd ends x e → RunEnd ends b e
-run-longer {ends} {x} {e} b h n r = record { upto = omega (arith, r .upto); byte = r .byte; end = r .end; before = none-then ends b x e n (r .before) }

@@ -38,8 +38,7 @@ abbrev pub Like : List ℕ → ℕ → ℕ → ℕ → Type 0
 Like m n a b = (p : ℕ) → p < n → bitAt m p a ≡ bitAt m p b
 
 pub record EndsNoted (m : List ℕ) (p : ℕ) (old new : List ℕ) (e : ℕ) : Type 0 where
-  pub kept : (b : ℕ) → b < e → isEnd new b ≡ false → isEnd old b ≡ false
-  pub same : (b : ℕ) → b < e → isEnd new b ≡ false → bitAt m p b ≡ bitAt m p (b + 1)
+  pub none : (b : ℕ) → b < e → isEnd new b ≡ false → (isEnd old b ≡ false) × (bitAt m p b ≡ bitAt m p (b + 1))
 
 pub record RunsOf (R : ℕ → ℕ → Type 0) (ends : List ℕ) : Type 0 where
   pub last : isEnd ends lastByte ≡ true

@@ -4,10 +4,9 @@ use native.Mathlib.Omega.{arith}
 use borrow.Author.Needs.{needs}
 use mir.Syntax.{w64}
 use mir.Val.{Fits}
-use lib.Count.{trailingZeros}
 use lib.ListN.{getD}
 use Rattle.scope.specs.Limits.{byteValues}
-use Rattle.byte_runs.specs.Runs.{NoEnd, RunEnd}
+use Rattle.byte_runs.specs.Runs.{NoEnd}
 use Rattle.byte_runs.proofs.Ends.{Rest, rest-start, rest-from, rest-none, rest-end, before-last}
 use Rattle.byte_runs.proofs.end_of.Statement.{statement}
 use Rattle.byte_runs.proofs.end_of.Tie as tie
