@@ -4,7 +4,8 @@
 --   noted-none, noted-more: the loop over the words of a byte set: the ends of 64 byte values more
 --   runs-none, runs-more: the loop over the positions
 --   Rest: of the ends of a word, those from b on
---   rest-start, rest-from, rest-none, rest-in, rest-end, rest-next: the whole word, and from b on; where nothing is left there is no end; else its lowest bit is the next, and what is left after it
+--   rest-start, rest-from: the whole word, and from b on
+--   rest-none, rest-in, rest-end, rest-next: where nothing is left there is no end; else the lowest bit is the next, and is taken off
 --   before-last: where no end was met, 255 was not
 use Prim.Native.Nat.{ℕ, zero, suc, _+_, _-_, _*_, _/_, _%_, _^_, _≤_, _<_}
 use mathlib.Core.Path.{_≡_, refl, sym, ap, _∙_}
@@ -52,6 +53,7 @@ joining-none m at = record { few = omega arith; small = omega arith; bits = λ j
 
 -- n: the byte that comes next
 module _ {m : List ℕ} {at x i : ℕ} (n : ℕ) (q : i ≡ n + 1) (s : Joining m at x i) where
+  -- the bound of one byte more
   wide : 2 ^ (64 - 8 * n) ≡ 2 ^ (64 - 8 * i) * 256
   wide = let e : 64 - 8 * n ≡ 64 - 8 * i + 8 = omega (arith, s .few) in ap (λ (y : ℕ). 2 ^ y) e ∙ pow-add 2 (64 - 8 * i) 8
 
@@ -169,10 +171,12 @@ double-high x j = let e : x * 2 / 2 ≡ x = omega arith in rw e at (has-half (x 
 abbrev Above : ℕ → ℕ → ℕ → Type 0
 Above y n z = (j : ℕ) → (j ≤ z → has y j ≡ false) × (z < j → has y j ≡ has n j)
 
+-- of an even number, by its half
 above-half : (n z y : ℕ) → Above y (n / 2) z → Above (y * 2) n (suc z)
 above-half n z y f zero = ((λ h. double-low y), λ h. absurd (omega arith))
 above-half n z y f (suc j) = ((λ h. double-high y j ∙ f j .0 (omega arith)), λ h. double-high y j ∙ f j .1 (omega arith) ∙ sym (has-half n j))
 
+-- of an odd one
 above-odd : (n : ℕ) → Above (n / 2 * 2) n 0
 above-odd n zero = ((λ h. double-low (n / 2)), λ h. absurd (omega arith))
 above-odd n (suc j) = ((λ h. absurd (omega arith)), λ h. double-high (n / 2) j ∙ sym (has-half n j))
@@ -193,6 +197,7 @@ lowest-off (suc k) n h l = elim (digit n) [
       rw (e, q) (above-odd n))
 ]
 
+-- rest: the bits from b on, as they stand in the word
 pub record Rest (ends : List ℕ) (w rest b : ℕ) : Type 0 where
   pub small : rest < 2 ^ 64
   pub passed : (j : ℕ) → 64 * w + j < b → has rest j ≡ false
@@ -230,13 +235,15 @@ module _ {ends : List ℕ} {w rest b : ℕ} (r : Rest ends w rest b) (none : NoE
   rest-none z c l h = elim (split c (64 * w)) [ inl k ↦ none c k h | inr k ↦ rest-bit c h k l ∙ rw z (has-zero (c - 64 * w)) ]
 
   module _ (some : rest ≡ 0 → ⊥) where
+    -- the lowest bit
     lowest : has rest (trailingZeros 64 rest) ≡ true
     lowest = trailing-one 64 rest (omega arith) (r .small)
 
-    -- the lowest stands in the word
+    -- it stands in the word
     pub rest-in : trailingZeros 64 rest < 64
     rest-in = has-small rest (trailingZeros 64 rest) 64 lowest (r .small)
 
+    -- it is not passed
     upto : b ≤ 64 * w + trailingZeros 64 rest
     upto = elim (split (64 * w + trailingZeros 64 rest) b) [ inl k ↦ absurd (true≢false (sym lowest ∙ r .passed (trailingZeros 64 rest) k)) | inr k ↦ k ]
 

@@ -1,12 +1,12 @@
 -- Runs of byte values, each known by its last byte, its end. The ends are bits of words, 64 byte values a word.
---   lastByte: the last byte value, always an end
+--   lastByte: the last byte value
 --   isEnd ends b: b is an end
 --   NoEnd ends a b: no byte from a up to b is an end
 --   RunEnd ends b e: e is the end of the run that b is in
 --   EightBytes m at x: x has the bits of the eight bytes from `at` on
 --   Like m n a b: each of the first n positions holds both a and b or neither
 --   EndsNoted m p old new e: a byte below e is no end in `new` only if it is none in `old`, and the position p + 1 holds both it and the next or neither
---   RunsOf R ends: two bytes with no end from the one up to the other are alike by R
+--   RunsOf R ends: two bytes with no end from the one up to the other are alike by R, and 255 is an end
 use Prim.Native.Nat.{ℕ, _+_, _-_, _/_, _%_, _^_, _<_, _≤_}
 use mathlib.Core.Path.{_≡_}
 use mathlib.Core.Bool.{Bool, true, false}
