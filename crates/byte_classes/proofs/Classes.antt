@@ -33,7 +33,7 @@ use Rattle.buffers.proofs.Numbered.{numbered-none, numbered-same, numbered-new,
 use Rattle.sets.specs.Layout.{bitAt}
 use Rattle.sets.proofs.HeldBits.{bit-small}
 use Rattle.byte_runs.specs.Runs.{lastByte, isEnd, NoEnd, RunEnd, Like}
-use Rattle.byte_runs.proofs.Ends.{Rest, rest-start, rest-none, rest-in, rest-end, rest-next, before-last}
+use Rattle.byte_runs.proofs.Ends.{EndsLeft, left-start, left-none, left-in, left-end, left-next, before-last}
 use Rattle.byte_classes.specs.Group.{endOf, ownPlace, Key, Classes, Grouped, GroupAnswer, ClassesBelow}
 use Rattle.byte_classes.specs.declared.Counted.{Counted}
 use Rattle.byte_classes.specs.declared.Counted.the-variants.{Few, Many}
@@ -135,9 +135,9 @@ module _ {m : List ℕ} {p : ℕ} {ends old names map : List ℕ} {k x e : ℕ} 
   whole a h = elim (split a x) [ inl l ↦ omega (arith, s .whole a l, r .upto) | inr l ↦ omega (arith, in-run a l (omega arith)) ]
 
   -- the run is named
-  runs-more : {names′ : List ℕ} {k′ : ℕ} (v : ℕ) (lead : List ℕ) → Table names′ lead k′
+  runs-named : {names′ : List ℕ} {k′ : ℕ} (v : ℕ) (lead : List ℕ) → Table names′ lead k′
       → Numbered Same (keyOf m p (endOf ends) old) (λ a. getD (set map e v) (endOf ends a) 0) (λ w. getD lead w 0) 0 k′ (e + 1) → RunsSplit m p ends old names′ (set map e v) k′ (e + 1)
-  runs-more v lead t n = record {
+  runs-named v lead t n = record {
     last = s .last;
     below = s .below;
     size = length-set map e v ∙ s .size;
@@ -160,7 +160,7 @@ module _ {m : List ℕ} {p : ℕ} {ends old names map : List ℕ} {k x e : ℕ} 
     runs-old ne =
         let v = getD names (2 * getD map e 0 + y) 0 - 1 in
         let (most, q) = s .table .known (2 * getD map e 0 + y) ne in
-        runs-more v (s .lead) (s .table)
+        runs-named v (s .lead) (s .table)
         (numbered-on (numbered-same (s .numbered) (keyOf m p (endOf ends) old) (λ a. getD (set map e v) (endOf ends a) 0) (λ w. getD (s .lead) w 0) (λ a h. refl) (kept v) (λ w h. refl)) (e + 1)
         (omega (arith, r .upto)) (λ a h l. rw (here v a l (omega arith)) (omega arith, q ∙ at a l (omega arith))))
 
@@ -175,7 +175,7 @@ module _ {m : List ℕ} {p : ℕ} {ends old names map : List ℕ} {k x e : ℕ} 
           let key = 2 * getD map e 0 + y in
           let room : key < 2 * classLimit = omega (arith, runs-below, bit-small m p e) in
           let own = lead-own (s .table) room ne in
-          runs-more k (set (s .lead) k key) (table-more (s .table) room ne)
+          runs-named k (set (s .lead) k key) (table-more (s .table) room ne)
           (numbered-on (numbered-new (s .numbered) (keyOf m p (endOf ends) old) (λ a. getD (set map e k) (endOf ends a) 0) (λ v. getD (set (s .lead) k key) v 0) (λ a h. refl) (kept k)
           (lead-kept (s .table) room ne) (here k x (omega arith) (r .upto)) (own ∙ at x (omega arith) (r .upto)) refl fresh) (e + 1) (omega (arith, r .upto))
           (λ a h l. rw (here k a (omega arith) (omega arith)) (omega arith, own ∙ at a (omega arith) (omega arith))))
@@ -199,7 +199,7 @@ pub record SplittingWord (m : List ℕ) (p : ℕ) (ends old names map : List ℕ
   pub x : ℕ
   pub upto : x ≤ 64 * (w + 1)
   pub none : NoEnd ends x (64 * w)
-  pub left : Rest ends w rest x
+  pub left : EndsLeft ends w rest x
   pub done : RunsSplit m p ends old names map k x
 
 -- no byte yet
@@ -231,7 +231,7 @@ splitting-none m p ends old last size below = record {
 module _ {m : List ℕ} {p : ℕ} {ends old names map : List ℕ} {k w : ℕ} (s : Splitting m p ends old names map k w) where
   -- all ends of the word are left
   pub word-none : getD ends w 0 < 2 ^ 64 → SplittingWord m p ends old names map k w (getD ends w 0)
-  word-none small = record { x = s .x; upto = omega (arith, s .upto); none = s .none; left = rest-start ends w (s .x) (s .upto) small; done = s .done }
+  word-none small = record { x = s .x; upto = omega (arith, s .upto); none = s .none; left = left-start ends w (s .x) (s .upto) small; done = s .done }
 
   -- all bytes
   pub splitting-all : byteValues ≤ 64 * w → Grouped (Key m p (endOf ends) old) (endOf ends) map k
@@ -250,21 +250,21 @@ module _ {m : List ℕ} {p : ℕ} {ends old names map : List ℕ} {k w : ℕ} (s
 module _ {m : List ℕ} {p : ℕ} {ends old names map : List ℕ} {k w rest : ℕ} (s : SplittingWord m p ends old names map k w rest) where
   -- no end is left
   pub word-all : rest ≡ 0 → Splitting m p ends old names map k (w + 1)
-  word-all z = record { x = s .x; upto = s .upto; none = rest-none (s .left) (s .none) z; done = s .done }
+  word-all z = record { x = s .x; upto = s .upto; none = left-none (s .left) (s .none) z; done = s .done }
 
   module _ (some : rest ≡ 0 → ⊥) where
     -- where the next run ends
     pub word-run : 64 * (w + 1) ≤ byteValues → RunEnd ends (s .x) (64 * w + trailingZeros 64 rest)
-    word-run = rest-end (s .left) (s .none) some
+    word-run = left-end (s .left) (s .none) some
 
     -- it is split
     pub word-more : {names′ map′ : List ℕ} {k′ : ℕ} → RunsSplit m p ends old names′ map′ k′ (64 * w + trailingZeros 64 rest + 1)
         → SplittingWord m p ends old names′ map′ k′ w (bitAnd rest (rest - 1))
     word-more d = record {
       x = 64 * w + trailingZeros 64 rest + 1;
-      upto = omega (arith, rest-in (s .left) (s .none) some);
+      upto = omega (arith, left-in (s .left) (s .none) some);
       none = λ c h l. absurd (omega arith);
-      left = rest-next (s .left) (s .none) some;
+      left = left-next (s .left) (s .none) some;
       done = d;
     }
 

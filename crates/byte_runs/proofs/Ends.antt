@@ -1,11 +1,11 @@
 -- Runs. A byte is an end where a position tells it from the next; with no end in between, no position tells two bytes apart.
---   Joining: the loop over eight bytes, from the last down: x has the bits of those from i on
+--   BytesJoining: the loop over eight bytes, from the last down: x has the bits of those from i on
 --   joining-none, joining-fits, joining-more, joining-all: its turns
 --   noted-none, noted-more: the loop over the words of a byte set: the ends of 64 byte values more
 --   runs-none, runs-more: the loop over the positions
---   Rest: of the ends of a word, those from b on
---   rest-start, rest-from: the whole word, and from b on
---   rest-none, rest-in, rest-end, rest-next: where nothing is left there is no end; else the lowest bit is the next, and is taken off
+--   EndsLeft: of the ends of a word, those from b on
+--   left-start, left-from: the whole word, and from b on
+--   left-none, left-in, left-end, left-next: where nothing is left there is no end; else the lowest bit is the next, and is taken off
 --   before-last: where no end was met, 255 was not
 use Prim.Native.Nat.{ℕ, zero, suc, _+_, _-_, _*_, _/_, _%_, _^_, _≤_, _<_}
 use mathlib.Core.Path.{_≡_, refl, sym, ap, _∙_}
@@ -42,17 +42,17 @@ lower-bit zero a x j h = absurd (omega arith)
 lower-bit (suc k) a x zero h = simp div-one (block-odd a k x)
 lower-bit (suc k) a x (suc j) h = rw (← half (a * 2 ^ suc k + x) j, ← half x j, block-half a k x) (lower-bit k a (x / 2) j (omega arith))
 
-pub record Joining (m : List ℕ) (at x i : ℕ) : Type 0 where
+pub record BytesJoining (m : List ℕ) (at x i : ℕ) : Type 0 where
   pub few : i ≤ 8
   pub small : x < 2 ^ (64 - 8 * i)
   pub bits : (j : ℕ) → j < 64 - 8 * i → x / 2 ^ j % 2 ≡ getD m (at + i + j / 8) 0 / 2 ^ (j % 8) % 2
 
 -- no byte yet
-pub joining-none : (m : List ℕ) (at : ℕ) → Joining m at 0 8
+pub joining-none : (m : List ℕ) (at : ℕ) → BytesJoining m at 0 8
 joining-none m at = record { few = omega arith; small = omega arith; bits = λ j h. absurd (omega arith) }
 
 -- n: the byte that comes next
-module _ {m : List ℕ} {at x i : ℕ} (n : ℕ) (q : i ≡ n + 1) (s : Joining m at x i) where
+module _ {m : List ℕ} {at x i : ℕ} (n : ℕ) (q : i ≡ n + 1) (s : BytesJoining m at x i) where
   -- the bound of one byte more
   wide : 2 ^ (64 - 8 * n) ≡ 2 ^ (64 - 8 * i) * 256
   wide = let e : 64 - 8 * n ≡ 64 - 8 * i + 8 = omega (arith, s .few) in ap (λ (y : ℕ). 2 ^ y) e ∙ pow-add 2 (64 - 8 * i) 8
@@ -62,7 +62,7 @@ module _ {m : List ℕ} {at x i : ℕ} (n : ℕ) (q : i ≡ n + 1) (s : Joining 
   joining-fits = omega (arith, s .small, wide, pow-mono {i = 64 - 8 * n} {j = 64} (omega arith))
 
   -- one byte more
-  pub joining-more : getD m (at + n) 0 < 256 → Joining m at (x * 256 + getD m (at + n) 0) n
+  pub joining-more : getD m (at + n) 0 < 256 → BytesJoining m at (x * 256 + getD m (at + n) 0) n
   joining-more h = record {
     few = omega (arith, s .few);
     small = omega (arith, s .small, wide);
@@ -77,7 +77,7 @@ module _ {m : List ℕ} {at x i : ℕ} (n : ℕ) (q : i ≡ n + 1) (s : Joining 
   }
 
 -- all of them
-pub joining-all : {m : List ℕ} {at x i : ℕ} → i ≤ 0 → Joining m at x i → EightBytes m at x
+pub joining-all : {m : List ℕ} {at x i : ℕ} → i ≤ 0 → BytesJoining m at x i → EightBytes m at x
 joining-all {at = at} {i = i} h s = record { bits = λ j l. (let e : at + j / 8 ≡ at + i + j / 8 = omega arith in rw e (s .bits j (omega arith))) }
 
 -- ---- one position
@@ -198,7 +198,7 @@ lowest-off (suc k) n h l = elim (digit n) [
 ]
 
 -- rest: the bits from b on, as they stand in the word
-pub record Rest (ends : List ℕ) (w rest b : ℕ) : Type 0 where
+pub record EndsLeft (ends : List ℕ) (w rest b : ℕ) : Type 0 where
   pub small : rest < 2 ^ 64
   pub passed : (j : ℕ) → 64 * w + j < b → has rest j ≡ false
   pub ahead : (j : ℕ) → j < 64 → b ≤ 64 * w + j → has rest j ≡ isEnd ends (64 * w + j)
@@ -208,12 +208,12 @@ word-bit : (ends : List ℕ) (w j : ℕ) → j < 64 → isEnd ends (64 * w + j) 
 word-bit ends w j h = let d : (64 * w + j) / 64 ≡ w = omega arith in let e : (64 * w + j) % 64 ≡ j = omega arith in rw (d, e)
 
 -- the whole word
-pub rest-start : (ends : List ℕ) (w b : ℕ) → b ≤ 64 * w → getD ends w 0 < 2 ^ 64 → Rest ends w (getD ends w 0) b
-rest-start ends w b h l = record { small = l; passed = λ j k. absurd (omega arith); ahead = λ j k y. sym (word-bit ends w j k) }
+pub left-start : (ends : List ℕ) (w b : ℕ) → b ≤ 64 * w → getD ends w 0 < 2 ^ 64 → EndsLeft ends w (getD ends w 0) b
+left-start ends w b h l = record { small = l; passed = λ j k. absurd (omega arith); ahead = λ j k y. sym (word-bit ends w j k) }
 
 -- its bits from b on
-pub rest-from : (ends : List ℕ) (b : ℕ) → getD ends (b / 64) 0 < 2 ^ 64 → Rest ends (b / 64) (getD ends (b / 64) 0 / 2 ^ (b % 64) * 2 ^ (b % 64) % 2 ^ 64) b
-rest-from ends b l =
+pub left-from : (ends : List ℕ) (b : ℕ) → getD ends (b / 64) 0 < 2 ^ 64 → EndsLeft ends (b / 64) (getD ends (b / 64) 0 / 2 ^ (b % 64) * 2 ^ (b % 64) % 2 ^ 64) b
+left-from ends b l =
     let s = b % 64 in
     let a = getD ends (b / 64) 0 / 2 ^ s in
     let q : a * 2 ^ s % 2 ^ 64 ≡ a * 2 ^ s = mod-eq-of-lt (omega (arith, div-mul-le-self (getD ends (b / 64) 0) (2 ^ s))) in
@@ -225,14 +225,14 @@ rest-from ends b l =
     })
 
 -- no end before the word
-module _ {ends : List ℕ} {w rest b : ℕ} (r : Rest ends w rest b) (none : NoEnd ends b (64 * w)) where
+module _ {ends : List ℕ} {w rest b : ℕ} (r : EndsLeft ends w rest b) (none : NoEnd ends b (64 * w)) where
   -- a byte of the word that is not passed
-  rest-bit : (c : ℕ) → b ≤ c → 64 * w ≤ c → c < 64 * (w + 1) → isEnd ends c ≡ has rest (c - 64 * w)
-  rest-bit c h k l = let e : 64 * w + (c - 64 * w) ≡ c = omega arith in rw e at (sym (r .ahead (c - 64 * w) (omega arith) (omega arith)))
+  left-bit : (c : ℕ) → b ≤ c → 64 * w ≤ c → c < 64 * (w + 1) → isEnd ends c ≡ has rest (c - 64 * w)
+  left-bit c h k l = let e : 64 * w + (c - 64 * w) ≡ c = omega arith in rw e at (sym (r .ahead (c - 64 * w) (omega arith) (omega arith)))
 
   -- no bit is left
-  pub rest-none : rest ≡ 0 → NoEnd ends b (64 * (w + 1))
-  rest-none z c l h = elim (split c (64 * w)) [ inl k ↦ none c k h | inr k ↦ rest-bit c h k l ∙ rw z (has-zero (c - 64 * w)) ]
+  pub left-none : rest ≡ 0 → NoEnd ends b (64 * (w + 1))
+  left-none z c l h = elim (split c (64 * w)) [ inl k ↦ none c k h | inr k ↦ left-bit c h k l ∙ rw z (has-zero (c - 64 * w)) ]
 
   module _ (some : rest ≡ 0 → ⊥) where
     -- the lowest bit
@@ -240,25 +240,25 @@ module _ {ends : List ℕ} {w rest b : ℕ} (r : Rest ends w rest b) (none : NoE
     lowest = trailing-one 64 rest (omega arith) (r .small)
 
     -- it stands in the word
-    pub rest-in : trailingZeros 64 rest < 64
-    rest-in = has-small rest (trailingZeros 64 rest) 64 lowest (r .small)
+    pub left-in : trailingZeros 64 rest < 64
+    left-in = has-small rest (trailingZeros 64 rest) 64 lowest (r .small)
 
     -- it is not passed
     upto : b ≤ 64 * w + trailingZeros 64 rest
     upto = elim (split (64 * w + trailingZeros 64 rest) b) [ inl k ↦ absurd (true≢false (sym lowest ∙ r .passed (trailingZeros 64 rest) k)) | inr k ↦ k ]
 
     -- it is the next end
-    pub rest-end : 64 * (w + 1) ≤ byteValues → RunEnd ends b (64 * w + trailingZeros 64 rest)
-    rest-end h = record {
+    pub left-end : 64 * (w + 1) ≤ byteValues → RunEnd ends b (64 * w + trailingZeros 64 rest)
+    left-end h = record {
       upto = upto;
-      byte = omega (arith, rest-in);
-      end = sym (r .ahead (trailingZeros 64 rest) rest-in upto) ∙ lowest;
-      before = λ c l k. elim (split c (64 * w)) [ inl y ↦ none c y k | inr y ↦ rest-bit c k y (omega (arith, rest-in)) ∙ trailing-none 64 rest (c - 64 * w) (omega arith) ];
+      byte = omega (arith, left-in);
+      end = sym (r .ahead (trailingZeros 64 rest) left-in upto) ∙ lowest;
+      before = λ c l k. elim (split c (64 * w)) [ inl y ↦ none c y k | inr y ↦ left-bit c k y (omega (arith, left-in)) ∙ trailing-none 64 rest (c - 64 * w) (omega arith) ];
     }
 
     -- and what is left after it
-    pub rest-next : Rest ends w (bitAnd rest (rest - 1)) (64 * w + trailingZeros 64 rest + 1)
-    rest-next =
+    pub left-next : EndsLeft ends w (bitAnd rest (rest - 1)) (64 * w + trailingZeros 64 rest + 1)
+    left-next =
         let off = lowest-off 64 rest (omega arith) (r .small) in
         record {
           small = omega (arith, r .small, and-le-l rest (rest - 1));

@@ -1,14 +1,14 @@
--- The invariant: the number has the bits of the bytes from i on (`Joining`).
+-- The invariant: the number has the bits of the bytes from i on (`BytesJoining`).
 use Prim.Native.Nat.{_+_, _-_, _<_}
 use native.Mathlib.Omega.{arith}
 use borrow.Author.Needs.{needs}
 use lib.ListN.{getD}
-use Rattle.byte_runs.proofs.Ends.{Joining, joining-none, joining-fits, joining-more, joining-all}
+use Rattle.byte_runs.proofs.Ends.{BytesJoining, joining-none, joining-fits, joining-more, joining-all}
 use Rattle.byte_runs.proofs.word.Statement.{statement}
 use Rattle.byte_runs.proofs.word.Tie as tie
 
 abbrev Inv-loop : tie.InvT-loop
-Inv-loop bytes at x₀ i₀ x i = Joining bytes at x i
+Inv-loop bytes at x₀ i₀ x i = BytesJoining bytes at x i
 
 abbrev μ-loop : tie.MeasureT-loop
 μ-loop bytes at x₀ i₀ x i = i
