@@ -5,7 +5,6 @@ ghost use Prim.Native.Nat.{_+_, _*_, _^_, _<_, _≤_};
 ghost use lib.Bits.{bitOr, bitAnd};
 ghost use lib.Dec.{eqb};
 ghost use lib.ListN.{length};
-ghost use Rattle.scope.specs.Positions.Bits.{has};
 ghost use Rattle.scope.specs.Limits.{setWords};
 ghost use Rattle.sets.specs.Value.{setBits, setValue, setAt, Put};
 use scope::Machine;
@@ -46,15 +45,6 @@ impl Set {
         ensures { λ r. ⌜ setValue (r .words) ≡ bitOr (setValue (self .words)) (2 ^ p) ⌝ }
     {
         self.joined(Set::one(p))
-    }
-
-    // Whether p is in the set.
-    pub fn has(self, p: usize) -> bool
-        requires { ⌜ p < setBits ⌝ }
-        ensures { λ r. ⌜ r ≡ has (setValue (self .words)) p ⌝ }
-    {
-        let i = p / 64;
-        (self.words[i] >> (p % 64)) % 2 == 1
     }
 
     // The union.
