@@ -1,6 +1,6 @@
 -- The cells of a row are taken off one after the other, from the lowest on.
 --   cell-first, cell-rest: the lowest; the others
---   cell-fits: a word has room for one cell more before those from any byte on
+--   cell-fits: one cell more fits into the word
 use Prim.Native.Nat.{ℕ, _+_, _*_, _/_, _%_, _^_, _≤_, _<_}
 use mathlib.Core.Path.{_≡_, _∙_}
 use mathlib.Core.List.{List}
@@ -27,6 +27,6 @@ module _ {next : ℕ → ℕ → ℕ} {least : List ℕ} {q : ℕ} where
   cells-below none = omega arith
   cells-below (more {i} {word} l r) = omega (arith, rw (add-one i, pow-suc cellValues i) at (cells-below r), mul-le-mul-right {m = next q (getD least i 0) + 1} {n = cellValues} (cellValues ^ i) (omega arith))
 
-  -- one cell more fits
+  -- one cell more fits into the word
   pub cell-fits : {i word : ℕ} → RowFrom next least q i word → 0 < i → (word + 1) * cellValues ≤ cellValues ^ rowWidth
   cell-fits {i} {word} r h = omega (arith, cells-below r, mul-le-mul-left (word + 1) (pow-le-pow-right {n = cellValues} (omega arith) h))

@@ -18,7 +18,7 @@ ghost use Rattle.buffers.specs.Stored.{Decides};
 ghost use Rattle.two_rooms.specs.Side.{bothLimit};
 ghost use Rattle.smallest_plan.specs.Planned.{Planned};
 
-// The smallest machine of a sound room. The words are used up.
+// The smallest machine of a sound room. It writes over the words.
 fn make_plan(from: &[u8], words: &mut [u64]) -> Plan
     requires { ⌜ Sound (now from) × (bothLimit ≤ length (now words)) ⌝ }
     ensures { λ r. ⌜ Planned (now (from .entry)) r × TailKept bothLimit (now (words .entry)) (now (words .exit)) ⌝ }

@@ -25,11 +25,11 @@ loop-holds c = (search needs, none)
 fits : (c : tie.In-loop Inv-loop μ-loop) → (c .before .loop .row + 1) * cellValues ≤ cellValues ^ rowWidth
 fits c = cell-fits (c .before .loop .inv .1) (c .loop-test .taken)
 
--- which is a state
+-- the cell is a state
 state : (c : tie.After-step Inv-loop μ-loop) → c .step .result < bothLimit
 state c = let d = c .before .before .before .before .before .before .before .before .pre .0 in omega (arith, c .step .ensures .1, d .0 .few-states, d .1 .few-states)
 
--- as q is
+-- and so is q
 few : (c : tie.Start Inv-loop μ-loop) → c .args .q < bothLimit
 few c = omega (arith, c .pre .1 .0 .0, c .pre .0 .0 .few-states, c .pre .0 .1 .few-states)
 
