@@ -1,4 +1,4 @@
-//! How much stack the operations take: no more than 32 KB, on the inputs that ask most of them.
+//! How much stack the operations take, on the inputs that ask most of them.
 //!
 //! A proof does not speak of the stack, so it is measured. Each operation runs in a thread whose stack is a buffer of
 //! ours, painted before; what is no longer painted after, below the frame that asked, was used. Our side of the call is
@@ -9,8 +9,18 @@
 use palgondur::{limits, raw};
 use std::os::raw::{c_int, c_void};
 
-/// The most that an operation may use, in bytes.
-const LIMIT: usize = 32 * 1_024;
+/// For each operation the bytes that it was seen to use, and the most that it may ever use. It may use an eighth more than
+/// it was seen to, and never more than that.
+const SEEN: [(&str, usize, usize); 8] = [
+    ("compile", 8_328, 13_000),
+    ("minimise", 7_400, 8_000),
+    ("match", 528, 1_024),
+    ("compare", 5_480, 8_000),
+    ("pack", 7_432, 8_000),
+    ("unpack", 7_432, 8_000),
+    ("desk_open", 144, 1_024),
+    ("desk_key", 928, 1_024),
+];
 
 /// The part of a stack that is painted at once.
 #[repr(C, align(4096))]
@@ -201,6 +211,16 @@ fn patterns() -> Vec<Row> {
         ("32 nested +", nested(32, "(", "a", ")+"), 0),
         ("32 nested ?", nested(32, "(", "a", ")?"), 0),
         (
+            "32 nested groups with all marks",
+            nested(32, "(", "a*+?", ")*+?"),
+            0,
+        ),
+        (
+            "31 nested groups of marked letters",
+            nested(31, "(a*", "b+", "c?)+"),
+            0,
+        ),
+        (
             "32 nested empty words",
             nested(32, "(\\e|", "\\e", "|\\e)*"),
             0,
@@ -231,6 +251,11 @@ fn patterns() -> Vec<Row> {
         ),
         ("64 pattern classes", literals(60) + "[x-y][y-z]", 0),
         ("65 pattern classes", literals(61) + "[x-y][y-z]", 7),
+        (
+            "65 pattern classes in 32 nested parentheses",
+            nested(32, "(", &(literals(61) + "[x-y][y-z]"), ")"),
+            7,
+        ),
         ("128 sets", sets(29), 0),
         ("129 sets", sets(30), 8),
     ];
@@ -509,7 +534,7 @@ fn desks() -> Vec<Row> {
 }
 
 #[test]
-fn no_operation_uses_more_than_the_limit() {
+fn no_operation_uses_more_than_it_may() {
     let mut lent = Lent::new();
     let mut most: Vec<(&str, usize, String)> = Vec::new();
     let rows = [patterns(), rooms(), forms(), desks()];
@@ -527,10 +552,16 @@ fn no_operation_uses_more_than_the_limit() {
     for (operation, stack, input) in &most {
         println!("{operation}: {stack} bytes of stack, on {input}");
     }
-    assert_eq!(most.len(), 8);
-    let within = |stack| (1..=LIMIT).contains(stack);
-    let over: Vec<_> = most.iter().filter(|row| !within(&row.1)).collect();
-    assert!(over.is_empty(), "not within {LIMIT} bytes: {over:?}");
+    for (operation, seen, limit) in SEEN {
+        let bound = (seen + seen / 8).min(limit);
+        let row = most.iter().find(|(name, ..)| *name == operation);
+        let (_, stack, input) = row.expect("a row of each operation");
+        assert!(
+            (1..=bound).contains(stack),
+            "{operation} uses {stack} bytes on {input}, and may use {bound}"
+        );
+    }
+    assert_eq!(most.len(), SEEN.len());
 }
 
 #[test]
