@@ -21,11 +21,11 @@ use Rattle.scope.proofs.Counting.Tests.{or, equals}
 use Rattle.scope.proofs.Text.Grammar.{other, escape-head, single-back}
 use Rattle.scope.proofs.Text.Marks.{mark-other}
 use Rattle.leaves.specs.ReadAt.{Backslash}
-use Rattle.byte_sets.specs.LeavesOf.{isFrame, isBlank, Leaves, over, frame, blank, leaf, LeafAt, none-left, here, NextLeaf}
+use Rattle.byte_sets.specs.LeavesOf.{isFrame, isBlank, LeavesFrom, over, frame, blank, leaf, LeafAt, none-left, here, NextLeaf}
 
 pub record Passed (s : List ℕ) (i r : ℕ) : Type 0 where
   pub on : i ≤ r
-  pub says : (l : List Leaf) → Leaves s i l → Leaves s r l
+  pub says : (l : List Leaf) → LeavesFrom s i l → LeavesFrom s r l
 
 -- ---- what stands at a place
 
@@ -63,20 +63,20 @@ module _ {s : List ℕ} where
 
   -- ---- one after the other
 
-  frame-next : {i : ℕ} {l : List Leaf} → i < length s → isFrame (byte s i) ≡ true → Leaves s i l → Leaves s (i + 1) l
+  frame-next : {i : ℕ} {l : List Leaf} → i < length s → isFrame (byte s i) ≡ true → LeavesFrom s i l → LeavesFrom s (i + 1) l
   unfolding isFrame isMark
   frame-next n h over = absurd (omega arith)
   frame-next n h (frame k r) = r
   frame-next n h (blank k e r) = absurd (other isFrame h refl k)
   frame-next n h (leaf x r) = absurd (false≢true (sym (single-frame x) ∙ h))
 
-  blank-next : {i : ℕ} {l : List Leaf} → i < length s → isFrame (byte s i) ≡ false → byte s i ≡ code "\\" → isBlank (byte s (i + 1)) ≡ true → Leaves s i l → Leaves s (i + 2) l
+  blank-next : {i : ℕ} {l : List Leaf} → i < length s → isFrame (byte s i) ≡ false → byte s i ≡ code "\\" → isBlank (byte s (i + 1)) ≡ true → LeavesFrom s i l → LeavesFrom s (i + 2) l
   blank-next n f h e over = absurd (omega arith)
   blank-next n f h e (frame k r) = absurd (false≢true (sym f ∙ k))
   blank-next n f h e (blank k d r) = r
   blank-next n f h e (leaf x r) = absurd (single-blank x h e)
 
-  leaf-first : {i : ℕ} {l : List Leaf} → isFrame (byte s i) ≡ false → (byte s i ≡ code "\\" → isBlank (byte s (i + 1)) ≡ false) → Leaves s i l → LeafAt s i l
+  leaf-first : {i : ℕ} {l : List Leaf} → isFrame (byte s i) ≡ false → (byte s i ≡ code "\\" → isBlank (byte s (i + 1)) ≡ false) → LeavesFrom s i l → LeafAt s i l
   leaf-first f n over = none-left
   leaf-first f n (frame k r) = absurd (false≢true (sym f ∙ k))
   leaf-first f n (blank k d r) = absurd (false≢true (sym (n k) ∙ d))

@@ -27,39 +27,39 @@ use Rattle.sets.specs.Layout.{firstAt, lastAt, readWords}
 use Rattle.spans.proofs.Spans.{between-in, between-out}
 use Rattle.fragments.specs.declared.Fragment.{Fragment}
 use Rattle.fragments.proofs.FollowLinks.{linked-still}
-use Rattle.fragments.specs.Shapes.{Laid, Cut, Alone, Blank, Beside, Either, Moved, WithMark}
+use Rattle.fragments.specs.Shapes.{Overlaid, Cut, Alone, Blank, Beside, Either, Moved, WithMark}
 use Rattle.factors.specs.Right.{Right}
 
 -- ---- the positions of an expression
 
 -- no position but those after k up to n is in s
-abbrev pub Apart : ℕ → ℕ → ℕ → Type 0
-Apart s k n = (p : ℕ) → (p ≤ k) ⊎ (n < p) → has s p ≡ false
+abbrev pub OnlyBetween : ℕ → ℕ → ℕ → Type 0
+OnlyBetween s k n = (p : ℕ) → (p ≤ k) ⊎ (n < p) → has s p ≡ false
 
 -- by what a set decides, and where that is
-apart : (e : Re) (k s n : ℕ) (P : ℕ → Type 0) → n ≡ k + size e → ((p : ℕ) → Tests (has s p) (P p)) → ((p : ℕ) → P p → PositionOf e k p) → Apart s k n
+apart : (e : Re) (k s n : ℕ) (P : ℕ → Type 0) → n ≡ k + size e → ((p : ℕ) → Tests (has s p) (P p)) → ((p : ℕ) → P p → PositionOf e k p) → OnlyBetween s k n
 apart e k s n P h t i p o = elim (which (has s p)) [ inl x ↦ absurd (no o (i p (t p .sound x))) | inr x ↦ x ]
   where
     no : (p ≤ k) ⊎ (n < p) → PositionOf e k p → ⊥
     no (inl x) y = omega (arith, y .0)
     no (inr x) y = omega (arith, y .1)
 
-pub first-apart : (e : Re) (k : ℕ) {n : ℕ} → n ≡ k + size e → Apart (first e k) k n
+pub first-apart : (e : Re) (k : ℕ) {n : ℕ} → n ≡ k + size e → OnlyBetween (first e k) k n
 first-apart e k h = apart e k (first e k) _ (First e k) h (first-is e k) (first-in e k)
 
-pub last-apart : (e : Re) (k : ℕ) {n : ℕ} → n ≡ k + size e → Apart (last e k) k n
+pub last-apart : (e : Re) (k : ℕ) {n : ℕ} → n ≡ k + size e → OnlyBetween (last e k) k n
 last-apart e k h = apart e k (last e k) _ (Last e k) h (last-is e k) (last-in e k)
 
 -- ---- what lies in a set
 
-laid-none : (k a : ℕ) → Laid 0 k k a a
+laid-none : (k a : ℕ) → Overlaid 0 k k a a
 laid-none k a = record { inside = λ p h u v. absurd (omega arith); outside = λ p h o. refl }
 
 -- of two parts, one after the other, what is kept: of the first if u, of the second if v
-module _ (u v : Bool) {s t k m n a b c d : ℕ} (k≤m : k ≤ m) (m≤n : m ≤ n) (sa : Apart s k m) (ta : Apart t m n) (x : Laid s k m a b) (y : Laid t m n b c)
+module _ (u v : Bool) {s t k m n a b c d : ℕ} (k≤m : k ≤ m) (m≤n : m ≤ n) (sa : OnlyBetween s k m) (ta : OnlyBetween t m n) (x : Overlaid s k m a b) (y : Overlaid t m n b c)
     (left : (p : ℕ) → p < setBits → k < p → p ≤ m → has d p ≡ (has c p && u)) (right : (p : ℕ) → p < setBits → m < p → p ≤ n → has d p ≡ (has c p && v))
     (other : (p : ℕ) → p < setBits → (p ≤ k) ⊎ (n < p) → has d p ≡ has c p) where
-  laid-join : Laid (bitOr (given u s) (given v t)) k n a d
+  laid-join : Overlaid (bitOr (given u s) (given v t)) k n a d
   laid-join = record { inside = λ p h i j. both p h i j (split m p); outside = λ p h o. other p h o ∙ y .outside p h (after o) ∙ x .outside p h (before o) }
     where
       bits : (p : ℕ) → has (bitOr (given u s) (given v t)) p ≡ ((has s p && u) || (has t p && v))
@@ -85,7 +85,7 @@ cut-out : {w : Bool} {from to c d : ℕ} → Cut w from to c d → (p : ℕ) →
 cut-out {w} {from} {to} {c} x p h o = x .bits p h ∙ rw (between-out from to p o) (ap (λ (e : Bool). has c p && e) (or-true w) ∙ and-true (has c p))
 
 -- what a set has between k and n, where it has s there
-laid-only : (s k n b : ℕ) → Apart s k n → ((p : ℕ) → p < setBits → k < p → p ≤ n → has b p ≡ has s p) → (p : ℕ) → p < setBits → (between (k + 1) n p && has b p) ≡ has s p
+laid-only : (s k n b : ℕ) → OnlyBetween s k n → ((p : ℕ) → p < setBits → k < p → p ≤ n → has b p ≡ has s p) → (p : ℕ) → p < setBits → (between (k + 1) n p && has b p) ≡ has s p
 laid-only s k n b a e p h = go (split k p) (split n p)
   where
     go : (k < p) ⊎ (p ≤ k) → (n < p) ⊎ (p ≤ n) → (between (k + 1) n p && has b p) ≡ has s p
@@ -113,7 +113,7 @@ module _ {e : Re} {k : ℕ} {w w′ : List ℕ} {g : Fragment} (x : Right e k w 
     };
   }
     where
-      still : {s a : ℕ} (i : ℕ) → i ≤ lastAt → (i ≤ k) ⊎ (g .count < i) → Laid s k (g .count) a (setAt w′ i) → Laid s k (g .count) a (setAt w″ i)
+      still : {s a : ℕ} (i : ℕ) → i ≤ lastAt → (i ≤ k) ⊎ (g .count < i) → Overlaid s k (g .count) a (setAt w′ i) → Overlaid s k (g .count) a (setAt w″ i)
       still i l o y = record { inside = λ p h u v. linked-still (c .linked) i p l h o ∙ y .inside p h u v; outside = λ p h z. linked-still (c .linked) i p l h o ∙ y .outside p h z }
 
       only-last : (p : ℕ) → p < setBits → (between (k + 1) (g .count) p && has (setAt w′ lastAt) p) ≡ has (last e k) p

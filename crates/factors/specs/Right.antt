@@ -12,7 +12,7 @@ use Rattle.scope.specs.Text.Re.{Re, size}
 use Rattle.sets.specs.Value.{setBits, setAt}
 use Rattle.sets.specs.Layout.{firstAt, lastAt, readWords}
 use Rattle.fragments.specs.declared.Fragment.{Fragment}
-use Rattle.fragments.specs.Shapes.{Laid}
+use Rattle.fragments.specs.Shapes.{Overlaid}
 
 pub record FollowCame (e : Re) (k : ℕ) (m m′ : List ℕ) : Type 0 where
   pub kept : TailKept readWords m m′
@@ -21,6 +21,6 @@ pub record FollowCame (e : Re) (k : ℕ) (m m′ : List ℕ) : Type 0 where
 pub record Right (e : Re) (k : ℕ) (w w′ : List ℕ) (g : Fragment) : Type 0 where
   pub counts : g .count ≡ k + size e
   pub nulls : g .null ≡ null e
-  pub firsts : Laid (first e k) k (g .count) (setAt w firstAt) (setAt w′ firstAt)
-  pub lasts : Laid (last e k) k (g .count) (setAt w lastAt) (setAt w′ lastAt)
+  pub firsts : Overlaid (first e k) k (g .count) (setAt w firstAt) (setAt w′ firstAt)
+  pub lasts : Overlaid (last e k) k (g .count) (setAt w lastAt) (setAt w′ lastAt)
   pub follows : FollowCame e k w w′

@@ -21,7 +21,7 @@ use Rattle.sets.specs.Layout.{firstAt, lastAt, readWords}
 use Rattle.spans.specs.Became.{Became}
 use Rattle.spans.proofs.Spans.{between-in, between-out, became-other}
 use Rattle.fragments.specs.declared.Fragment.{Fragment}
-use Rattle.fragments.specs.Shapes.{Laid, Linked, Alone, Beside}
+use Rattle.fragments.specs.Shapes.{Overlaid, Linked, Alone, Beside}
 
 pub linked-none : (from after upto : ℕ) (m : List ℕ) → Linked true from from after upto m m
 linked-none from after upto m = record {
@@ -67,7 +67,7 @@ module _ {from p after upto : ℕ} {m a b : List ℕ} where
 became-kept : {m m′ : List ℕ} {i : ℕ} {f : ℕ → Bool} → i ≤ lastAt → Became m m′ i f → TailKept readWords m m′
 became-kept h s = record { size = s .size; outside = λ j k. s .outside j (inr (omega arith)) }
 
-laid-one : (k a b : ℕ) → ((q : ℕ) → q < setBits → has b q ≡ (has a q || between (k + 1) (k + 1) q)) → Laid (2 ^ (k + 1)) k (k + 1) a b
+laid-one : (k a b : ℕ) → ((q : ℕ) → q < setBits → has b q ≡ (has a q || between (k + 1) (k + 1) q)) → Overlaid (2 ^ (k + 1)) k (k + 1) a b
 laid-one k a b e = record {
   inside = λ p h u v. e p h ∙ rw (between-in k (k + 1) p u v) (or-true (has a p) ∙ sym (has-pow (k + 1) p ∙ equals (k + 1) p .full (omega arith)));
   outside = λ p h o. e p h ∙ rw (between-out k (k + 1) p o) (or-false (has a p));

@@ -1,6 +1,6 @@
 -- Parts of a pattern, and how they are made of each other. First and Last of all parts that are being read lie in two sets of the words: their positions are
 -- disjoint, so a part that has k positions to its left has there what the two sets have after k up to its count.
---   Laid s k n a b: the set b has after k up to n what s has, and elsewhere what a has
+--   Overlaid s k n a b: the set b has after k up to n what s has, and elsewhere what a has
 --   Cut wanted from to a b: b is a without the positions after `from` up to `to`, unless they are wanted
 --   Linked c from to after upto m m′: if c, what First has after `after` up to `upto` came into the set of each position that Last has after `from` up to `to`
 --   Alone, Blank, Beside, Either, Moved: the parts that a position, no position, two parts side by side, one or the other, and a part read further are
@@ -17,7 +17,7 @@ use Rattle.sets.specs.Value.{setBits, setAt}
 use Rattle.sets.specs.Layout.{firstAt, lastAt, readWords}
 use Rattle.fragments.specs.declared.Fragment.{Fragment}
 
-pub record Laid (s k n a b : ℕ) : Type 0 where
+pub record Overlaid (s k n a b : ℕ) : Type 0 where
   pub inside : (p : ℕ) → p < setBits → k < p → p ≤ n → has b p ≡ has s p
   pub outside : (p : ℕ) → p < setBits → (p ≤ k) ⊎ (n < p) → has b p ≡ has a p
 
@@ -33,8 +33,8 @@ pub record Alone (next count : ℕ) (m m′ : List ℕ) (r : Fragment) : Type 0 
   pub nexts : r .next ≡ next
   pub counts : r .count ≡ count + 1
   pub nulls : r .null ≡ false
-  pub firsts : Laid (2 ^ (count + 1)) count (count + 1) (setAt m firstAt) (setAt m′ firstAt)
-  pub lasts : Laid (2 ^ (count + 1)) count (count + 1) (setAt m lastAt) (setAt m′ lastAt)
+  pub firsts : Overlaid (2 ^ (count + 1)) count (count + 1) (setAt m firstAt) (setAt m′ firstAt)
+  pub lasts : Overlaid (2 ^ (count + 1)) count (count + 1) (setAt m lastAt) (setAt m′ lastAt)
   pub follows : (p : ℕ) → 0 < p → p < setBits → setAt m′ p ≡ setAt m p
   pub kept : TailKept readWords m m′
 

@@ -1,6 +1,6 @@
 -- The end of a class. After a backslash stands no `]` that ends it, and the bytes of an escape after those two are none.
 --   Along s i j: from i on, each byte passed, with the one after it if it is a backslash, the `]` at j is reached, and none before it
---   InClass s at i: so it is for the end of every class whose items begin at at
+--   WithinClass s at i: so it is for the end of every class whose items begin at at
 --   class-all, class-inside, class-one, class-two, class-end: at the first item; before the end; one byte further; two; at the end
 use Prim.Native.Nat.{ℕ, _+_, _<_, _≤_}
 use Prim.Native.Char.{code}
@@ -20,7 +20,7 @@ pub data Along (s : List ℕ) : ℕ → ℕ → Type 0 where
   over : {i j : ℕ} → (byte s i ≡ code "]" → ⊥) → (byte s i ≡ code "\\" → ⊥) → Along s (i + 1) j → Along s i j
   pair : {i j : ℕ} → byte s i ≡ code "\\" → Along s (i + 2) j → Along s i j
 
-pub record InClass (s : List ℕ) (at i : ℕ) : Type 0 where
+pub record WithinClass (s : List ℕ) (at i : ℕ) : Type 0 where
   pub says : (j : ℕ) (l : List Item) → WholeItems s at j l → Along s i j
 
 module _ {s : List ℕ} where
@@ -75,17 +75,17 @@ module _ {s : List ℕ} where
     along-end q e (over k l r) = absurd (k (sym q ∙ e))
     along-end q e (pair h r) = absurd (omega arith)
 
-  pub class-all : (i : ℕ) → InClass s i i
+  pub class-all : (i : ℕ) → WithinClass s i i
   class-all i = record { says = λ j l (r, h). items-along r (here h) }
 
-  module _ {at i b : ℕ} (f : InClass s at i) (q : b ≡ byte s i) where
+  module _ {at i b : ℕ} (f : WithinClass s at i) (q : b ≡ byte s i) where
     pub class-inside : Some WholeItems s at → (b ≡ code "]" → ⊥) → i < length s
     class-inside p n = omega (arith, along-on q n (f .says (p .end) (p .what) (p .reads)), items-bounds (p .end) (p .what) (p .reads))
 
-    pub class-one : (b ≡ code "]" → ⊥) → (b ≡ code "\\" → ⊥) → InClass s at (i + 1)
+    pub class-one : (b ≡ code "]" → ⊥) → (b ≡ code "\\" → ⊥) → WithinClass s at (i + 1)
     class-one n m = record { says = λ j l w. along-one q n m (f .says j l w) }
 
-    pub class-two : b ≡ code "\\" → InClass s at (i + 2)
+    pub class-two : b ≡ code "\\" → WithinClass s at (i + 2)
     class-two e = record { says = λ j l w. along-two q e (f .says j l w) }
 
     pub class-end : Some WholeItems s at → b ≡ code "]" → EndsAt WholeItems s at i

@@ -28,12 +28,12 @@ use Rattle.sets.proofs.Words.{set-none, set-above}
 use Rattle.pattern.specs.declared.Shape.{Shape}
 use Rattle.byte_sets.specs.BytesCame.{Fillable, Filled}
 use Rattle.fragments.specs.declared.Fragment.{Fragment}
-use Rattle.fragments.specs.Shapes.{Laid}
+use Rattle.fragments.specs.Shapes.{Overlaid}
 use Rattle.sets.specs.Layout.{byteSet, byteSets, held, firstAt, lastAt, readWords}
 use Rattle.factors.specs.Tails.{closesExpr, WholeLevel}
 use Rattle.factors.specs.Right.{Right}
 use Rattle.factors.specs.Answer.{Readable, Answer}
-use Rattle.factors.proofs.Rights.{Apart, first-apart, last-apart}
+use Rattle.factors.proofs.Rights.{OnlyBetween, first-apart, last-apart}
 use Rattle.pattern.specs.PatternSets.{Faultless, Clear, Reading}
 use Rattle.pattern.proofs.Tails.{ready}
 
@@ -59,7 +59,7 @@ pub ready-text : {s : List ℕ} → Faultless s → Readable exprs 0 s 0
 ready-text {s} p = ready exprs (p .short) (whole s (p .tree) (p .sized .pattern)) (omega (arith, few p))
 
 -- what came into an empty set is all that is there
-all-laid : (s n b : ℕ) → n < setBits → Apart s 0 n → ((p : ℕ) → setBits ≤ p → has b p ≡ false) → Laid s 0 n 0 b → b ≡ s
+all-laid : (s n b : ℕ) → n < setBits → OnlyBetween s 0 n → ((p : ℕ) → setBits ≤ p → has b p ≡ false) → Overlaid s 0 n 0 b → b ≡ s
 all-laid s n b h a o x = same-bits b s (λ p. at p (split p setBits))
   where
     at : (p : ℕ) → (p < setBits) ⊎ (setBits ≤ p) → has b p ≡ has s p

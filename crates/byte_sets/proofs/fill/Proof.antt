@@ -4,12 +4,12 @@ use mathlib.Core.Path.{_≡_, refl}
 use native.Mathlib.Omega.{arith}
 use borrow.Author.Needs.{needs}
 use lib.ListN.{length}
-use Rattle.byte_sets.proofs.Filling.{Filling, filling-all, filling-some, filling-room, filling-more, filling-none}
+use Rattle.byte_sets.proofs.Filling.{BytesLeft, filling-all, filling-some, filling-room, filling-more, filling-none}
 use Rattle.byte_sets.proofs.fill.Statement.{statement}
 use Rattle.byte_sets.proofs.fill.Tie as tie
 
 abbrev Inv-loop : tie.InvT-loop
-Inv-loop text bytes₀ k₀ at₀ bytes k at = (length bytes ≡ length bytes₀) × Filling text at k bytes₀ bytes
+Inv-loop text bytes₀ k₀ at₀ bytes k at = (length bytes ≡ length bytes₀) × BytesLeft text at k bytes₀ bytes
 
 abbrev μ-loop : tie.MeasureT-loop
 μ-loop text bytes₀ k₀ at₀ bytes k at = length text - at

@@ -3,12 +3,12 @@ use Prim.Native.Nat.{_-_, _<_}
 use native.Mathlib.Omega.{arith}
 use borrow.Author.Needs.{needs}
 use lib.ListN.{length}
-use Rattle.leaves.proofs.ClassEnd.{InClass, class-all, class-inside, class-one, class-two, class-end}
+use Rattle.leaves.proofs.ClassEnd.{WithinClass, class-all, class-inside, class-one, class-two, class-end}
 use Rattle.leaves.proofs.class_end.Statement.{statement}
 use Rattle.leaves.proofs.class_end.Tie as tie
 
 abbrev Inv-loop : tie.InvT-loop
-Inv-loop text at next₀ next = InClass text at next
+Inv-loop text at next₀ next = WithinClass text at next
 
 abbrev μ-loop : tie.MeasureT-loop
 μ-loop text at next₀ next = length text - next
