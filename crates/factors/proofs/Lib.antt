@@ -1,6 +1,6 @@
 -- The text, and what is right for an expression
 pub mod ReadsIn
 pub mod Rights
--- What is read: a leaf, and the stars after an atom
+-- What is read: a leaf, and the marks after an atom
 pub mod Atoms
 pub mod Carried

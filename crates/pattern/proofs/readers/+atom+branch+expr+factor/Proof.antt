@@ -1,10 +1,10 @@
 -- The four readers meet their contracts, together: each may use what the others promise of a call whose measure is less. The measure is four times the bytes
 -- that are left, and then the level: an expression calls a branch at the same place, a branch a factor, a factor an atom; only an atom starts anew, after
 -- its `(`, and there a byte less is left. So do the loops, whose turns begin after what was read.
--- A call needs something to read there. It is found in the tree that is known to be there: its first part (`ready-atom`, `ready-factor`, `ready-branch`), what
--- stands in its parentheses (`ready-inner`), or the next part in the tail (`factor-ready`, `branch-ready`).
--- The invariant of a loop: whatever its first part began, that part and those read since begin it, too (`Carried`). A turn makes it so for one part more, and
--- where the next byte ends the branch or the expression, what was read is all of it.
+-- A call needs something to read there. It is found in the tree that is known to be there: the atom of a factor (`ready-atom`), what stands in its parentheses
+-- (`ready-inner`), or the next part of a branch or an expression (`ready-part`).
+-- The invariant of a loop: what was read so far begins everything that can be read there (`Begun`). A turn makes it so for one part more (`parts-more`), and where
+-- the next byte ends the branch or the expression, what was read is all of it (`parts-found`).
 use borrow.Author.Needs.{needs}
 use Prim.Native.Nat.{ℕ, _+_, _*_, _-_, _<_, _≤_}
 use mathlib.Core.Path.{_≡_, refl, sym, ap, _∙_}
