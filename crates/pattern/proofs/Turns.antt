@@ -1,5 +1,6 @@
 -- The loops, turn by turn: an l goes on exactly if the byte after a part says so. What a reader has read is a first part of everything that can be read there; one
 -- turn makes it a longer one, and when none is left it is the whole.
+--   stop-told: what the test of a branch's loop says
 --   factor-fit, factor-found: the marks after an atom
 --   no-factor, no-branch: nothing was read yet
 --   going, going-some, going-small: of what can be read it is a first part; its count
@@ -7,7 +8,7 @@
 --   join-factor, join-branch: a factor more, a branch more
 use Prim.Native.Nat.{ℕ, _<_, _≤_}
 use mathlib.Core.Path.{_≡_, refl, sym, ap, subst, _∙_}
-use mathlib.Core.Bool.{true, false, false≢true}
+use mathlib.Core.Bool.{Bool, true, false, false≢true}
 use mathlib.Core.List.{List}
 use native.Mathlib.Omega.{arith}
 use lib.ListN.{length}
@@ -19,7 +20,7 @@ use Rattle.sets.specs.Value.{setBits}
 use Rattle.sets.specs.Layout.{readWords}
 use Rattle.fragments.specs.declared.Fragment.{Fragment}
 use Rattle.fragments.specs.Shapes.{Blank, Beside, Either}
-use Rattle.factors.specs.Tails.{closesExpr, EndsLevel}
+use Rattle.factors.specs.Tails.{closesExpr, stops, EndsLevel}
 use Rattle.factors.specs.Right.{Right}
 use Rattle.factors.specs.Answer.{Fit, Readable, ReadTree, Answer, WithMarks}
 use Rattle.factors.proofs.Rights.{right-empty, right-nothing, right-beside, right-either, after-empty, or-nothing}
@@ -27,6 +28,10 @@ use Rattle.factors.proofs.Atoms.{answer}
 use Rattle.factors.proofs.Carried.{mark-last}
 use Rattle.pattern.specs.Parts.{partOf, GoesOn, afterBar, SoFar, nothing-yet, so-far, grown, reOf, PartsLeft, last-part, more-parts, Going, Begun}
 use Rattle.pattern.proofs.Tails.{all-factors, all-branches, marks-size, marks-begun, parts-size}
+
+-- what the test of a byte says of the place after a part
+pub stop-told : (s : List ℕ) {i j n : ℕ} {r v : Bool} → n ≡ byte s i → i ≡ j → r ≡ stops n → r ≡ v → stops (byte s j) ≡ v
+stop-told s e d h t = ap stops (sym (e ∙ ap (byte s) d)) ∙ sym h ∙ t
 
 -- ---- an atom and its marks
 

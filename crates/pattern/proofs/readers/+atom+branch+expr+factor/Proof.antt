@@ -16,10 +16,9 @@ use Rattle.scope.specs.Text.Grammar.{branches, exprs}
 use Rattle.pattern.specs.Parts.{Begun}
 use Rattle.pattern.proofs.Tails.{ready-atom, ready-part}
 use Rattle.pattern.proofs.Groups.{ready-inner, answer-inner}
-use Rattle.factors.specs.Tails.{stops}
 use Rattle.leaves.proofs.ByteByByte.{inside}
 use Rattle.factors.proofs.Rights.{right-moved}
-use Rattle.pattern.proofs.Turns.{factor-fit, factor-found, no-factor, no-branch, going, going-some, going-small, parts-more, parts-found, join-factor, join-branch}
+use Rattle.pattern.proofs.Turns.{stop-told, factor-fit, factor-found, no-factor, no-branch, going, going-some, going-small, parts-more, parts-found, join-factor, join-branch}
 use borrow.Fn.Kinds.{In}
 use borrow.Fn.PlainCycle.{Measures, is, falls, and}
 use Rattle.pattern.proofs.readers.atom.Reads as atom
@@ -103,7 +102,7 @@ atom-part t = atom-lts.spec (byte-at-reads.Asked, byte-at-reads.Learnt, expr-bel
     (λ c κs. search needs)
     (λ c κs. ((c .before .before .before .before .before .pre .1 .0, λ e. c .before .if1 .left (c .before .before .byte-at .ensures .0 ∙ e)), search needs))
     (λ c. search needs)
-    (λ c. answer-inner (c .before .before .before .before .before .before .before .before .before .before .pre .1 .0) (c .before .before .before .before .before .before .before .byte-at .ensures .0) (c .before .before .before .before .before .before .if1 .taken) (c .before .before .before .before .expr .ensures) (c .moved .ensures))
+    (λ c. let e = c .before .before .before .before in let i = e .before .before in answer-inner (i .before .before .before .before .pre .1 .0) (i .before .byte-at .ensures .0) (i .if1 .taken) (e .expr .ensures) (c .moved .ensures))
     (λ c. search needs)
     (λ c. c .before .before .leaf .ensures)
 
@@ -113,15 +112,15 @@ branch-part t = branch-lts.spec (blank-reads.Asked, blank-reads.Learnt, factor-b
     branch-Inv-loop
     branch-μ-loop
     (λ c κs. search needs)
-    (λ c. let p = c .before .before .before .pre .1 .0 in (omega (arith, c .blank .ensures .nexts), omega (arith, p .inside, c .blank .ensures .nexts), refl, no-factor (c .blank .ensures)))
+    (λ c. let p = c .before .before .before .pre .1 .0 in let e = c .blank .ensures in (omega (arith, e .nexts), omega (arith, p .inside, e .nexts), refl, no-factor e))
     (λ c κs. (omega arith, (let l = c .before in let p = l .before .before .before .before .pre .1 .0 in ready-part branches p (going branches p (l .loop .inv .3)), search needs)))
     (λ c κs. let l = c .before .before .before .before .before in let s = l .before .before .before .before in let p = s .pre .1 .0 in let b = l .loop .inv .3 in (going-some branches p b, going-small branches p b, omega (arith, s .pre .1 .1, l .loop .inv .2, c .before .before .words .given)))
     (λ c κs. search needs)
     (λ c κs. search needs)
     (λ c. search needs)
-    (λ c. parts-found branches (c .before .before .before .before .before .before .before .before .before .before .before .loop .inv .3) (c .before .before .before .before .before .before .before .before .before .factor .ensures) (join-factor (going-small branches (c .before .before .before .before .before .before .before .before .before .before .before .before .before .before .before .pre .1 .0) (c .before .before .before .before .before .before .before .before .before .before .before .loop .inv .3)) (c .before .before .before .before .before .beside .ensures)) (c .before .before .before .before .before .before .before .before .before .before .before .before .before .before .before .pre .1 .0) (c .before .before .before .before .before .beside .ensures .nexts) (λ z. false≢true (sym z ∙ ap stops (sym (c .before .before .byte-at .ensures .0 ∙ ap (byte (c .before .before .before .before .before .before .before .before .before .before .before .before .before .before .before .args .text .now)) (c .before .before .before .before .before .beside .ensures .nexts))) ∙ sym (c .before .ends-branch .ensures) ∙ c .if1 .taken)))
-    (λ c. omega (arith, c .before .before .before .before .before .before .before .before .before .factor .ensures .on, c .before .before .before .before .before .before .before .before .before .factor .ensures .inside, c .before .before .before .before .before .beside .ensures .nexts))
-    (λ c. let f = c .before .before .before .before .before .before .before .before .before .factor .ensures in let e = c .before .before .before .before .before .beside .ensures in (omega (arith, f .on, e .nexts, c .before .before .before .before .before .before .before .before .before .before .before .loop .inv .0), omega (arith, f .inside, e .nexts), search needs, parts-more branches (c .before .before .before .before .before .before .before .before .before .before .before .loop .inv .3) f (join-factor (going-small branches (c .before .before .before .before .before .before .before .before .before .before .before .before .before .before .before .pre .1 .0) (c .before .before .before .before .before .before .before .before .before .before .before .loop .inv .3)) (c .before .before .before .before .before .beside .ensures)) (e .nexts) (ap stops (sym (c .before .before .byte-at .ensures .0 ∙ ap (byte (c .before .before .before .before .before .before .before .before .before .before .before .before .before .before .before .args .text .now)) (c .before .before .before .before .before .beside .ensures .nexts))) ∙ sym (c .before .ends-branch .ensures) ∙ c .if1 .left)))
+    (λ c. let b = c .before .before .before .before .before in let f = b .before .before .before .before in let l = f .before .before in let p = l .before .before .before .before .pre .1 .0 in let m = b .beside .ensures in parts-found branches (l .loop .inv .3) (f .factor .ensures) (join-factor (going-small branches p (l .loop .inv .3)) m) p (m .nexts) (λ z. false≢true (sym z ∙ stop-told (l .before .before .before .before .args .text .now) (c .before .before .byte-at .ensures .0) (m .nexts) (c .before .ends-branch .ensures) (c .if1 .taken))))
+    (λ c. let b = c .before .before .before .before .before in let f = b .before .before .before .before .factor .ensures in omega (arith, f .on, f .inside, b .beside .ensures .nexts))
+    (λ c. let b = c .before .before .before .before .before in let f = b .before .before .before .before in let l = f .before .before in let p = l .before .before .before .before .pre .1 .0 in let m = b .beside .ensures in let e = f .factor .ensures in (omega (arith, e .on, m .nexts, l .loop .inv .0), omega (arith, e .inside, m .nexts), search needs, parts-more branches (l .loop .inv .3) e (join-factor (going-small branches p (l .loop .inv .3)) m) (m .nexts) (stop-told (l .before .before .before .before .args .text .now) (c .before .before .byte-at .ensures .0) (m .nexts) (c .before .ends-branch .ensures) (c .if1 .left))))
 
 expr-part : {M : Type 1} (t : ℕ) → expr-lts.Closed (blank-reads.Asked, blank-reads.Learnt, branch-below t, branch.Post, either-reads.Asked, either-reads.Learnt, byte-at-reads.Asked, byte-at-reads.Learnt, moved-reads.Asked, moved-reads.Learnt) (expr-at t) expr.Post M
 expr-part t = expr-lts.spec (blank-reads.Asked, blank-reads.Learnt, branch-below t, branch.Post, either-reads.Asked, either-reads.Learnt, byte-at-reads.Asked, byte-at-reads.Learnt, moved-reads.Asked, moved-reads.Learnt) (expr-at t)
@@ -129,24 +128,24 @@ expr-part t = expr-lts.spec (blank-reads.Asked, blank-reads.Learnt, branch-below
     expr-Inv-loop
     expr-μ-loop
     (λ c κs. search needs)
-    (λ c. let p = c .before .before .before .pre .1 .0 in (omega (arith, c .blank .ensures .nexts), omega (arith, p .inside, c .blank .ensures .nexts), refl, no-branch (c .blank .ensures)))
+    (λ c. let p = c .before .before .before .pre .1 .0 in let e = c .blank .ensures in (omega (arith, e .nexts), omega (arith, p .inside, e .nexts), refl, no-branch e))
     (λ c κs. (omega arith, (let l = c .before in let p = l .before .before .before .before .pre .1 .0 in ready-part exprs p (going exprs p (l .loop .inv .3)), search needs)))
     (λ c κs. search needs)
     (λ c κs. search needs)
     (λ c. search needs)
-    (λ c. parts-found exprs (c .before .before .before .before .before .before .before .loop .inv .3) (c .before .before .before .before .before .branch .ensures) (join-branch (c .before .before .either .ensures)) (c .before .before .before .before .before .before .before .before .before .before .before .pre .1 .0) (c .before .before .either .ensures .nexts) (λ z. c .if1 .taken ((c .before .byte-at .ensures .0 ∙ ap (byte (c .before .before .before .before .before .before .before .before .before .before .before .args .text .now)) (c .before .before .either .ensures .nexts)) ∙ z)))
-    (λ c. omega (arith, c .before .before .before .before .before .before .branch .ensures .inside, c .before .before .before .either .ensures .nexts, c .before .before .before .before .before .before .before .before .before .before .before .before .pre .1 .0 .short))
+    (λ c. let b = c .before .before .before .before .before in let l = b .before .before in let s = l .before .before .before .before in let m = c .before .before .either .ensures in parts-found exprs (l .loop .inv .3) (b .branch .ensures) (join-branch m) (s .pre .1 .0) (m .nexts) (λ z. c .if1 .taken (c .before .byte-at .ensures .0 ∙ ap (byte (s .args .text .now)) (m .nexts) ∙ z)))
+    (λ c. let m = c .before .before .before in let b = m .before .before .before in omega (arith, b .branch .ensures .inside, m .either .ensures .nexts, b .before .before .before .before .before .before .pre .1 .0 .short))
     (λ c κs. search needs)
-    (λ c. omega (arith, c .before .before .before .before .before .before .before .branch .ensures .on, c .before .before .before .before .before .before .before .branch .ensures .inside, c .before .before .before .before .either .ensures .nexts, c .moved .ensures .nexts))
-    (λ c. let b = c .before .before .before .before .before .before .before .branch .ensures in let e = c .before .before .before .before .either .ensures in let m = c .moved .ensures in let h = sym (c .before .before .before .byte-at .ensures .0 ∙ ap (byte (c .before .before .before .before .before .before .before .before .before .before .before .before .before .args .text .now)) (c .before .before .before .before .either .ensures .nexts)) ∙ c .before .before .if1 .left in (omega (arith, b .on, e .nexts, m .nexts, c .before .before .before .before .before .before .before .before .before .loop .inv .0), omega (arith, e .nexts, m .nexts, inside (c .before .before .before .before .before .before .before .before .before .before .before .before .before .args .text .now) (c .before .before .before .before .before .before .before .branch .result .next) (λ z. omega (arith, h, z))), omega (arith, c .before .before .before .before .before .before .before .before .before .loop .inv .2, c .before .before .before .before .before .before .words .given), parts-more exprs (c .before .before .before .before .before .before .before .before .before .loop .inv .3) b (λ so t x z. right-moved (join-branch e so t x z) m) (m .nexts ∙ ap (λ n. n + 1) (e .nexts)) h))
+    (λ c. let m = c .before .before .before .before in let e = m .before .before .before .branch .ensures in omega (arith, e .on, e .inside, m .either .ensures .nexts, c .moved .ensures .nexts))
+    (λ c. let b = c .before .before .before .before .before .before .before in let l = b .before .before in let s = l .before .before .before .before .args .text .now in let e = b .branch .ensures in let m = c .before .before .before .before .either .ensures in let n = c .moved .ensures in let h = sym (c .before .before .before .byte-at .ensures .0 ∙ ap (byte s) (m .nexts)) ∙ c .before .before .if1 .left in (omega (arith, e .on, m .nexts, n .nexts, l .loop .inv .0), omega (arith, m .nexts, n .nexts, inside s (b .branch .result .next) (λ z. omega (arith, h, z))), omega (arith, l .loop .inv .2, c .before .before .before .before .before .before .words .given), parts-more exprs (l .loop .inv .3) e (λ so t x z. right-moved (join-branch m so t x z) n) (n .nexts ∙ ap (λ n. n + 1) (m .nexts)) h))
 
 factor-part : {M : Type 1} (t : ℕ) → factor-lts.Closed (atom-below t, atom.Post, marks-reads.Asked, marks-reads.Learnt) (factor-at t) factor.Post M
 factor-part t = factor-lts.spec (atom-below t, atom.Post, marks-reads.Asked, marks-reads.Learnt) (factor-at t)
     factor.Post
     (λ c κs. (omega arith, (ready-atom (c .before .before .before .pre .1 .0), search needs)))
-    (λ c κs. factor-fit (c .before .before .before .before .before .before .before .pre .1 .0) (c .before .before .before .atom .ensures) (search needs))
+    (λ c κs. let a = c .before .before .before in factor-fit (a .before .before .before .before .pre .1 .0) (a .atom .ensures) (search needs))
     (λ c. search needs)
-    (λ c. factor-found (c .before .before .before .before .before .before .before .before .before .before .pre .1 .0) (c .before .before .before .before .before .before .atom .ensures) (c .before .before .marks .ensures))
+    (λ c. let a = c .before .before .before .before .before .before in factor-found (a .before .before .before .before .pre .1 .0) (a .atom .ensures) (c .before .before .marks .ensures))
 
 pub +atom+branch+expr+factor-spec : {M : Type 1} → statement M
 +atom+branch+expr+factor-spec = close μ-atom μ-branch μ-expr μ-factor atom-part branch-part expr-part factor-part
