@@ -107,7 +107,7 @@ class Rows:
         texts += drawn
         self.texts = [*self.lengths, *drawn]
         for text in texts:
-            for lengths, word in list(ways(ROOM))[: None if text in ("a*", "(ab*|a)b", "[b-a]", "%{a^64}", "%") else 1]:
+            for lengths, word in list(ways(ROOM))[: None if text in ("a*", "[b-a]", "%{a^64}", "%") else 1]:
                 self.group().append((row("c", *lengths, text=spelt(text)), f"compiling {named(text)}{word}"))
 
     def on_room(self, group, name, text=b"", length=7379, whole=False):
