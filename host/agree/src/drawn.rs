@@ -1,6 +1,6 @@
 //! Cases drawn from a seed: case N of a seed is always the same one. Those of the entry desk are numbered by themselves.
 
-use cases::draw::{bound_pair, Alphabet, Draw, FORM_DAMAGES, LIMITS, ROOM_DAMAGES};
+use cases::draw::{bound_pair, Alphabet, Draw, FORM_DAMAGES, LIMITS};
 use second::form;
 use second::limits;
 use second::machine::Machine;
@@ -155,8 +155,7 @@ fn machine(draw: &mut Draw) -> Machine {
 fn spoilt(draw: &mut Draw, machine: &Machine) -> Vec<u8> {
     let mut room = machine.room();
     if draw.once_in(6) {
-        let damage = draw.pick(&ROOM_DAMAGES);
-        room = draw.damaged_room(&room, damage);
+        room = draw.any_damage(&room);
     }
     let length = length(draw, limits::ROOM);
     let tail = content(draw, length.saturating_sub(limits::ROOM));

@@ -8,10 +8,12 @@ use second::matching::live;
 mod desks;
 mod patterns;
 mod rooms;
+mod ways;
 
 pub use desks::{EntryDamage, Typing, ENTRY_DAMAGES};
 pub use patterns::{Alphabet, Limit, LIMITS};
 pub use rooms::{bound_pair, FormDamage, RoomDamage, FORM_DAMAGES, ROOM_DAMAGES};
+pub use ways::{WayDamage, WAY_DAMAGES};
 
 /// A source of drawn things: splitmix64 over a seed.
 #[derive(Clone, Debug)]

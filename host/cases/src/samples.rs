@@ -3,6 +3,7 @@
 use second::answer::{ACCEPTED, DEAD, DONE, FORM, ROOM, SAME, SEPARATED, UNFINISHED};
 use second::limits::{CLASS_AT, MARK_AT};
 use second::machine::{head, Machine};
+use second::ways;
 
 /// What the program prints: on each line a question, an arrow and the answer.
 const PRINTED: &str = include_str!("../../../crates/samples/stdout");
@@ -107,11 +108,12 @@ pub fn text(given: &str) -> &str {
     }
 }
 
-/// The room of a pattern, as it is compiled, or one that has a name in the program `samples`.
+/// The room of a pattern, as it is compiled, or one that has a name in the program `samples`. A changed one has the ways of what it became.
 pub fn room(given: &str, compiled: impl Fn(&str) -> Vec<u8>) -> Vec<u8> {
     let changed = |pattern, at: usize, byte| {
         let mut room = compiled(pattern);
         room[at] = byte;
+        ways::mend(&mut room);
         room
     };
     let sample = "(ab*|a)b";

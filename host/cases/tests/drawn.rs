@@ -3,18 +3,20 @@
 use std::collections::HashMap;
 
 use cases::draw::{
-    Draw, EntryDamage, Limit, RoomDamage, Typing, ENTRY_DAMAGES, LIMITS, ROOM_DAMAGES,
+    Draw, EntryDamage, Limit, RoomDamage, Typing, WayDamage, ENTRY_DAMAGES, LIMITS, ROOM_DAMAGES,
+    WAY_DAMAGES,
 };
 use cases::exhaustive::{patterns, strings};
 use second::answer::*;
 use second::desk::{Desk, BACK};
 use second::sets::Automaton;
-use second::{limits, sound};
+use second::{limits, sound, Machine};
 
 #[test]
 fn drawn_damage_makes_rooms_unsound() {
     use RoomDamage::{Byte, Classes, States, UnusedCell, UnusedMark};
     let mut draw = Draw::new(7);
+    let mut stay = HashMap::new();
     for _ in 0..200 {
         let room = draw.room();
         assert!(sound(&room));
@@ -22,7 +24,32 @@ fn drawn_damage_makes_rooms_unsound() {
             let other = draw.damaged_room(&room, damage);
             let may_stay = [Byte, States, Classes, UnusedCell, UnusedMark].contains(&damage);
             assert!(may_stay || !sound(&other));
+            *stay.entry(format!("{damage:?}")).or_insert(0) += usize::from(sound(&other));
         }
+    }
+    // What became another machine has its ways, and is sound.
+    for damage in ["Byte", "States", "Classes"] {
+        assert!(stay[damage] > 20, "{stay:?}");
+    }
+}
+
+#[test]
+fn drawn_damage_to_ways_makes_rooms_unsound() {
+    use WayDamage::{Class, Exchanged, Old, Zero};
+    let mut draw = Draw::new(11);
+    let mut seen = HashMap::new();
+    for _ in 0..400 {
+        let room = draw.room();
+        for damage in WAY_DAMAGES {
+            let other = draw.damaged_ways(&room, damage);
+            assert!(Machine::table(&other).is_some(), "{damage:?}");
+            let may_stay = [Exchanged, Zero, Class, Old].contains(&damage);
+            assert!(may_stay || !sound(&other), "{damage:?}");
+            *seen.entry(format!("{damage:?}")).or_insert(0) += usize::from(!sound(&other));
+        }
+    }
+    for (damage, times) in &seen {
+        assert!(*times > 80, "{damage}: {seen:?}");
     }
 }
 

@@ -5,6 +5,7 @@
 //! | text | cut into tokens and split between partners (`text`); places by trying completions (`judge`) |
 //! | language | Brzozowski's derivatives (`derive`) |
 //! | sets reached | an automaton with empty steps (`sets`) |
+//! | ways | breadth first, backward from the accepting states (`ways`) |
 //! | smallest machine | double reversal (`smallest`) |
 //! | comparison | lengths of all pairs, and breadth first (`pairs`) |
 //! | form | a list of bits (`form`) |
@@ -29,6 +30,7 @@ pub mod pairs;
 pub mod sets;
 pub mod smallest;
 pub mod text;
+pub mod ways;
 
 pub use machine::{sound, Machine};
 pub use operations::{

@@ -19,8 +19,12 @@ pub const CLASS_AT: usize = 2;
 pub const MARK_AT: usize = CLASS_AT + BYTES;
 /// Where the cells begin in a room.
 pub const CELL_AT: usize = MARK_AT + STATES;
+/// Where the ways begin in a room, two bytes each.
+pub const WAY_AT: usize = CELL_AT + STATES * CLASSES;
 /// Number of bytes of a room.
-pub const ROOM: usize = CELL_AT + STATES * CLASSES;
+pub const ROOM: usize = WAY_AT + 2 * STATES;
+/// The way of a state from which nothing leads to acceptance.
+pub const NO_WAY: u16 = 65535;
 
 /// Bytes of scratch.
 pub const SCRATCH_BYTES: usize = 32768;

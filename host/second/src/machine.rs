@@ -1,6 +1,7 @@
 //! A complete machine over the 256 byte values, and the room it is written in.
 
-use crate::limits::{BYTES, CELL_AT, CLASSES, CLASS_AT, MARK_AT, ROOM, STATES};
+use crate::limits::{BYTES, CELL_AT, CLASSES, CLASS_AT, MARK_AT, ROOM, STATES, WAY_AT};
+use crate::ways;
 
 /// A complete machine; state 0 starts. It may have more states than a room can hold.
 #[derive(Clone, PartialEq, Eq, Debug)]
@@ -40,12 +41,18 @@ impl Machine {
     /// The machine in a room, if the room is long enough and sound.
     pub fn read(room: &[u8]) -> Option<Machine> {
         let room = room.get(..ROOM)?;
+        Machine::table(room).filter(|machine| room[WAY_AT..] == ways::written(machine))
+    }
+
+    /// The machine in a room that is long enough and, but for its ways, sound.
+    pub fn table(room: &[u8]) -> Option<Machine> {
+        let room = room.get(..ROOM)?;
         let (states, classes) = head(room);
         if !(1..=STATES).contains(&states) || !(1..=CLASSES).contains(&classes) {
             return None;
         }
         let (marks, no_marks) = room[MARK_AT..CELL_AT].split_at(states);
-        let (cells, no_cells) = room[CELL_AT..].split_at(states * classes);
+        let (cells, no_cells) = room[CELL_AT..WAY_AT].split_at(states * classes);
         let class = &room[CLASS_AT..MARK_AT];
         let sound = class.iter().all(|&class| usize::from(class) < classes)
             && marks.iter().all(|&mark| mark < 2)
@@ -78,6 +85,7 @@ impl Machine {
         for (at, &cell) in self.cells.iter().enumerate() {
             room[CELL_AT + at] = cell as u8;
         }
+        room[WAY_AT..].copy_from_slice(&ways::written(self));
         room
     }
 }

@@ -2,26 +2,12 @@
 
 use crate::answer;
 use crate::machine::Machine;
+use crate::ways::ways;
 
-/// Which states have a string that leads to acceptance: backward from the accepting states.
+/// Which states have a string that leads to acceptance.
 pub fn live(machine: &Machine) -> Vec<bool> {
-    let samples = machine.samples();
-    let mut before = vec![Vec::new(); machine.states];
-    for state in 0..machine.states {
-        for &byte in &samples {
-            before[machine.next(state, byte)].push(state);
-        }
-    }
-    let mut live = vec![false; machine.states];
-    let mut waiting: Vec<usize> = (0..machine.states)
-        .filter(|&state| machine.marks[state])
-        .collect();
-    while let Some(state) = waiting.pop() {
-        if !std::mem::replace(&mut live[state], true) {
-            waiting.extend(&before[state]);
-        }
-    }
-    live
+    let ways = ways(machine);
+    ways.into_iter().map(|way| way.is_some()).collect()
 }
 
 /// The answer and place of matching a text.

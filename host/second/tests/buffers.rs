@@ -1,7 +1,9 @@
 //! What each operation leaves in every buffer, and the order of its judgements.
 
 use second::answer::*;
-use second::limits::{ENTRY_FORM, ROOM as ROOM_SIZE, SCRATCH_BYTES, SCRATCH_WORDS, TEXT, WORD};
+use second::limits::{
+    ENTRY_FORM, ROOM as ROOM_SIZE, SCRATCH_BYTES, SCRATCH_WORDS, TEXT, WAY_AT, WORD,
+};
 
 /// Scratch of given lengths, none of it zero.
 fn scratch(bytes: usize, words: usize) -> (Vec<u8>, Vec<u64>) {
@@ -94,8 +96,11 @@ fn short_buffers_are_judged_first() {
 fn refusals_clear_scratch_alone() {
     let bad = vec![255; ROOM_SIZE + 4];
     let good = room(b"a*b");
+    // A fourth state, which leads to the first, and so needs one byte more than that.
     let mut doubled = good.clone();
     doubled[0] += 1;
+    doubled[WAY_AT + 7] = 2;
+    assert!(second::sound(&doubled));
     let mut to = vec![7; ROOM_SIZE + 4];
     let mut word = vec![7; WORD + 4];
     for turn in 0..8 {

@@ -1,6 +1,6 @@
 //! The entry desk: forms that are opened and typed key by key, and single calls.
 
-use cases::draw::{Draw, Typing, ENTRY_DAMAGES, ROOM_DAMAGES};
+use cases::draw::{Draw, Typing, ENTRY_DAMAGES};
 use second::desk::{Desk, BACK, ENTER};
 use second::limits::{self, FIELDS};
 use second::machine::Machine;
@@ -124,8 +124,7 @@ fn lent(draw: &mut Draw, machines: &[Machine]) -> Vec<u8> {
     let mut rooms = end_to_end(&machines);
     if draw.once_in(12) {
         let room = one * limits::ROOM..(one + 1) * limits::ROOM;
-        let damage = draw.pick(&ROOM_DAMAGES);
-        let damaged = draw.damaged_room(&rooms[room.clone()], damage);
+        let damaged = draw.any_damage(&rooms[room.clone()]);
         rooms[room].copy_from_slice(&damaged);
     }
     if draw.once_in(16) {

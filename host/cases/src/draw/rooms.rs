@@ -2,10 +2,11 @@
 
 use super::Draw;
 use second::form;
-use second::limits::{self, BYTES, CELL_AT, CLASS_AT, MARK_AT, ROOM, STATES};
+use second::limits::{self, BYTES, CELL_AT, CLASS_AT, MARK_AT, STATES, WAY_AT};
 use second::machine::{head, Machine};
+use second::ways;
 
-/// A kind of damage to a room.
+/// A kind of damage to a room, its ways aside.
 #[derive(Clone, Copy, PartialEq, Eq, Debug)]
 pub enum RoomDamage {
     /// One byte, anywhere, changed.
@@ -26,7 +27,7 @@ pub enum RoomDamage {
     Cell,
 }
 
-/// All kinds of damage to a room.
+/// All kinds of damage to a room, its ways aside.
 pub const ROOM_DAMAGES: [RoomDamage; 8] = [
     RoomDamage::Byte,
     RoomDamage::UnusedCell,
@@ -175,7 +176,7 @@ impl Draw {
         other
     }
 
-    /// A sound room with damage of a kind; a changed byte or number may leave it sound.
+    /// A sound room with damage of a kind; a changed byte or number may leave it sound, and then it has the ways of what it became.
     pub fn damaged_room(&mut self, room: &[u8], damage: RoomDamage) -> Vec<u8> {
         let mut room = room.to_vec();
         let (states, classes) = head(&room);
@@ -183,13 +184,13 @@ impl Draw {
         let above = |draw: &mut Draw, least: usize| draw.between(least, 255) as u8;
         match damage {
             RoomDamage::Byte => {
-                let most = self.pick(&[2, MARK_AT, CELL_AT, used, ROOM]);
+                let most = self.pick(&[2, MARK_AT, CELL_AT, used, WAY_AT]);
                 let at = self.below(most);
                 let change = self.between(1, 255) as u8;
                 room[at] = room[at].wrapping_add(if self.once_in(2) { 1 } else { change });
             }
-            RoomDamage::UnusedCell if used < ROOM => {
-                let at = self.pick(&[used, ROOM - 1, (used + ROOM) / 2]);
+            RoomDamage::UnusedCell if used < WAY_AT => {
+                let at = self.pick(&[used, WAY_AT - 1, (used + WAY_AT) / 2]);
                 room[at] = above(self, 1);
             }
             RoomDamage::UnusedMark if states < STATES => {
@@ -231,6 +232,7 @@ impl Draw {
                 };
             }
         }
+        ways::mend(&mut room);
         room
     }
 }
