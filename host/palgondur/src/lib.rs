@@ -10,7 +10,7 @@
 //!
 //! let field = Machine::compile("[0-9A-F]+")?;
 //! assert_eq!(field.matches("4A"), Match::Accepted);
-//! assert_eq!(field.matches(""), Match::Unfinished);
+//! assert!(matches!(field.matches(""), Match::Unfinished { fewest_more: 1, .. }));
 //! assert!(matches!(field.matches("4G7"), Match::Dead { place: 2, .. }));
 //!
 //! let rewritten = Machine::compile("[0-9A-F]*[0-9A-F]")?;

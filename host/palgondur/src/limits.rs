@@ -16,8 +16,12 @@ pub const CLASSES_AT: usize = 2;
 pub const MARKS_AT: usize = CLASSES_AT + 256;
 /// Where the cells begin, by row.
 pub const CELLS_AT: usize = MARKS_AT + STATES;
+/// Where the ways begin: of each state the fewest bytes from it to acceptance, in two bytes, the high one first.
+pub const WAYS_AT: usize = CELLS_AT + STATES * CLASSES;
+/// The way of a state from which nothing leads to acceptance.
+pub const NO_WAY: u16 = 65_535;
 /// Bytes of a machine room.
-pub const ROOM: usize = CELLS_AT + STATES * CLASSES;
+pub const ROOM: usize = WAYS_AT + 2 * STATES;
 /// Bytes of a packed form, at most: its bit fields, filled to a whole byte.
 pub const FORM: usize = (4 + 7 + 6 + 256 * 6 + STATES + STATES * CLASSES * 7 + 7) / 8;
 /// Bytes of a separating string, at most.

@@ -26,7 +26,11 @@ pub enum Match {
         place: usize,
     },
     /// The text is not accepted, but some continuation of it is.
-    Unfinished,
+    #[non_exhaustive]
+    Unfinished {
+        /// The fewest bytes that follow the text in a continuation that is accepted; at least 1.
+        fewest_more: usize,
+    },
 }
 
 /// What a comparison answers. Rounds are how often states could be split by what they accept and where bytes send them,
@@ -64,7 +68,7 @@ impl Machine {
     ///
     /// let serial = Machine::compile("[A-Z]+-?[0-9]+")?;
     /// assert_eq!(serial.matches("PK-004711"), Match::Accepted);
-    /// assert_eq!(serial.matches("PK-"), Match::Unfinished);
+    /// assert!(matches!(serial.matches("PK-"), Match::Unfinished { .. }));
     /// # Ok::<(), Refusal>(())
     /// ```
     pub fn compile(pattern: impl AsRef<[u8]>) -> Result<Machine, Refusal> {
@@ -117,7 +121,7 @@ impl Machine {
     /// ```
     /// use palgondur::{limits, Machine};
     ///
-    /// // Two states that both accept everything.
+    /// // Two states that both accept everything: the ways are 0.
     /// let mut room = [0; limits::ROOM];
     /// (room[0], room[1]) = (2, 1);
     /// (room[258], room[259]) = (1, 1);
@@ -139,22 +143,33 @@ impl Machine {
         machine
     }
 
-    /// Whether the text is accepted, whole; if not, whether it could still be, or where it died.
+    /// Whether the text is accepted, whole; if not, whether it could still be and by how few bytes, or where it died.
     ///
     /// ```
     /// use palgondur::{Machine, Match};
     ///
     /// let machine = Machine::compile("(ab*|a)b")?;
     /// assert_eq!(machine.matches("ab"), Match::Accepted);
-    /// assert_eq!(machine.matches("a"), Match::Unfinished);
+    /// assert!(matches!(machine.matches("a"), Match::Unfinished { fewest_more: 1, .. }));
     /// assert!(matches!(machine.matches("ac"), Match::Dead { place: 2, .. }));
+    ///
+    /// let serial = Machine::compile("[A-Z][A-Z]-[0-9][0-9][0-9]")?;
+    /// match serial.matches("PK") {
+    ///     Match::Unfinished { fewest_more, .. } => assert_eq!(fewest_more, 4),
+    ///     other => panic!("{other:?}"),
+    /// }
     /// # Ok::<(), palgondur::Refusal>(())
     /// ```
     pub fn matches(&self, text: impl AsRef<[u8]>) -> Match {
-        match raw::match_text(self.room(), text.as_ref()) {
+        let text = text.as_ref();
+        match raw::match_text(self.room(), text) {
             (0, _) => Match::Accepted,
             (raw::DEAD, place) => Match::Dead { place },
-            (raw::UNFINISHED, _) => Match::Unfinished,
+            (raw::UNFINISHED, _) => {
+                let more = self.fewest_more(self.state_after(text));
+                let fewest_more = more.expect("a way from where the text is unfinished");
+                Match::Unfinished { fewest_more }
+            }
             (number, _) => unreachable!("{number} of a sound room"),
         }
     }
@@ -224,7 +239,40 @@ impl Machine {
         usize::from(self.room[1])
     }
 
-    /// The room: the two numbers, the class of each byte value, the accept marks, the cells.
+    /// The state, counted from 0, that a text leads to from the start, which is state 0.
+    pub fn state_after(&self, text: impl AsRef<[u8]>) -> usize {
+        let next = |state: usize, byte: &u8| {
+            let class = self.room[limits::CLASSES_AT + usize::from(*byte)];
+            let cell = state * self.classes() + usize::from(class);
+            usize::from(self.room[limits::CELLS_AT + cell])
+        };
+        text.as_ref().iter().fold(0, next)
+    }
+
+    /// The fewest bytes that lead from a state to acceptance, 0 where the state accepts. None, if there is no way, or no
+    /// such state.
+    ///
+    /// ```
+    /// use palgondur::Machine;
+    ///
+    /// let machine = Machine::compile("abcd|b")?;
+    /// let more = |text: &str| machine.fewest_more(machine.state_after(text));
+    /// assert_eq!((more(""), more("a"), more("b"), more("c")), (Some(1), Some(3), Some(0), None));
+    /// assert_eq!(machine.fewest_more(machine.states()), None);
+    /// # Ok::<(), palgondur::Refusal>(())
+    /// ```
+    pub fn fewest_more(&self, state: usize) -> Option<usize> {
+        if state >= self.states() {
+            return None;
+        }
+        let at = limits::WAYS_AT + 2 * state;
+        match u16::from_be_bytes([self.room[at], self.room[at + 1]]) {
+            limits::NO_WAY => None,
+            way => Some(usize::from(way)),
+        }
+    }
+
+    /// The room: the two numbers, the class of each byte value, the accept marks, the cells, the ways.
     pub fn room(&self) -> &[u8; limits::ROOM] {
         &self.room
     }

@@ -272,14 +272,15 @@ fn room(
     mark: impl Fn(usize) -> bool,
     cell: impl Fn(usize, usize) -> usize,
 ) -> Vec<u8> {
-    let mut room = vec![limits::STATES as u8, classes as u8];
-    room.extend((0..256).map(|byte: usize| byte.min(classes - 1) as u8));
-    room.extend((0..limits::STATES).map(|state| u8::from(mark(state))));
-    for state in 0..limits::STATES {
-        room.extend((0..classes).map(|class| cell(state, class) as u8));
-    }
-    room.resize(limits::ROOM, 0);
-    room
+    let cells = (0..limits::STATES * classes).map(|at| cell(at / classes, at % classes));
+    let machine = second::Machine {
+        states: limits::STATES,
+        classes,
+        class: (0..256).map(|byte| byte.min(classes - 1)).collect(),
+        marks: (0..limits::STATES).map(mark).collect(),
+        cells: cells.collect(),
+    };
+    machine.room()
 }
 
 /// Some number below a bound, the same for the same seed.
@@ -305,6 +306,8 @@ struct Rooms {
     tailed: Vec<u8>,
     /// The largest, its last cell 128.
     unsound: Vec<u8>,
+    /// The largest, the way of its last state wrong.
+    astray: Vec<u8>,
 }
 
 impl Rooms {
@@ -317,7 +320,9 @@ impl Rooms {
         let largest = lent.room;
         assert_eq!(largest[..2], [128, 64]);
         let mut unsound = largest.clone();
-        unsound[limits::ROOM - 1] = 128;
+        unsound[limits::WAYS_AT - 1] = 128;
+        let mut astray = largest.clone();
+        astray[limits::ROOM - 1] ^= 1;
         let last = |state| state == 127;
         Rooms {
             largest,
@@ -327,11 +332,12 @@ impl Rooms {
             ring: room(1, last, |state, _| (state + 1) % 128),
             tailed: room(1, last, |state, _| state % 127 + 1),
             unsound,
+            astray,
         }
     }
 
     /// Each with its name, and whether it is sound.
-    fn named(&self) -> [(&'static str, &Vec<u8>, bool); 7] {
+    fn named(&self) -> [(&'static str, &Vec<u8>, bool); 8] {
         [
             ("the largest room", &self.largest, true),
             ("the largest, renumbered", &self.renumbered, true),
@@ -340,6 +346,7 @@ impl Rooms {
             ("a ring of 128", &self.ring, true),
             ("a ring of 127 after one", &self.tailed, true),
             ("an unsound room", &self.unsound, false),
+            ("a room with a wrong way", &self.astray, false),
         ]
     }
 }

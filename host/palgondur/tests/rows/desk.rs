@@ -8,7 +8,7 @@ use palgondur::{raw, Desk, KeyRefusal, Machine, OpenRefusal};
 use std::fmt;
 
 /// The bytes of a room, and of an entry form.
-const ROOM: usize = 8_578;
+const ROOM: usize = 8_834;
 const ENTRY: usize = 2_066;
 
 /// The bytes of a form, and of what is lent behind it. They are shown without the zeros at their end.
@@ -339,6 +339,15 @@ fn forms_from_outside_are_judged() {
         ((&["a*", "a*"], b"a", vec![Rooms(ROOM, 0)]), [9; 4]),
         ((&["a*", "a*"], b"a", vec![Rooms(2 * ROOM - 1, 1)]), [9; 4]),
         ((&["a*", "a*"], b"a\ra\r", vec![Rooms(ROOM, 0)]), [9; 4]),
+        // Nor is one whose ways are wrong: that of the first state, of the dead one, of one that is not used.
+        ((&["a*", "a*"], b"a", vec![Rooms(8_579, 1)]), [9; 4]),
+        ((&["a*", "a*"], b"a", vec![Rooms(8_581, 0)]), [9; 4]),
+        ((&["a*", "a*"], b"a", vec![Rooms(8_582, 1)]), [9; 4]),
+        ((&["a*", "a*"], b"a", vec![Rooms(ROOM + 8_579, 1)]), [9; 4]),
+        (
+            (&["a*", "a*"], b"a\ra\r", vec![Rooms(ROOM + 8_581, 0)]),
+            [9; 4],
+        ),
         (
             (&["a*", "a*"], b"a", vec![Form(0, 1), Rooms(ROOM, 0)]),
             [0, 0, 0, 10],
@@ -371,6 +380,7 @@ fn short_slices_are_refused() {
         // The count asks for rooms whatever it is.
         ((ROOM, ENTRY, 1), [0, 11, 0, 10]),
         ((ROOM - 1, ENTRY, 1), [1; 4]),
+        ((8_578, ENTRY, 1), [1; 4]),
         ((0, ENTRY, 1), [1; 4]),
         ((0, ENTRY, 0), [9; 4]),
         ((0, ENTRY - 1, 0), [1; 4]),
@@ -412,6 +422,7 @@ fn forms_are_opened_on_bare_slices() {
         ((1 << 63, 16 * ROOM, ENTRY, None), 21),
         // Then what is lent.
         ((1, ROOM - 1, ENTRY, None), 1),
+        ((1, 8_578, ENTRY, None), 1),
         ((1, 0, ENTRY, None), 1),
         ((1, ROOM, ENTRY - 1, None), 1),
         ((1, ROOM, 0, None), 1),

@@ -45,7 +45,7 @@ fn asked(question: &samples::Question) -> Result<String, Refusal> {
         "match" => match room(question.given)?.matches(samples::text(question.other)) {
             Match::Accepted => "accepted".to_string(),
             Match::Dead { place, .. } => format!("dead {place}"),
-            Match::Unfinished => "unfinished".to_string(),
+            Match::Unfinished { .. } => "unfinished".to_string(),
             other => format!("{other:?}"),
         },
         "compare" => compared(&room(question.given)?, &room(question.other)?),
@@ -91,7 +91,51 @@ fn bytes_beyond_ascii_are_bytes() {
 fn long_strings_are_matched() {
     let long = vec![b'a'; 1 << 20];
     assert_eq!(machine("a*").matches(&long), Match::Accepted);
-    assert_eq!(machine("a*b").matches(&long), Match::Unfinished);
+    let unfinished = machine("a*bc").matches(&long);
+    assert!(matches!(
+        unfinished,
+        Match::Unfinished { fewest_more: 2, .. }
+    ));
+}
+
+#[test]
+fn unfinished_texts_tell_the_fewest_bytes_more() {
+    // The pattern and the text; the bytes that it wants at least, none if there is no way.
+    let rows = [
+        (("a*", ""), Some(0)),
+        (("\\e", ""), Some(0)),
+        (("\\e", "a"), None),
+        (("\\0", ""), None),
+        (("a\\0", ""), None),
+        (("[0-9][0-9][0-9]", ""), Some(3)),
+        (("[0-9][0-9][0-9]", "41"), Some(1)),
+        (("[0-9][0-9][0-9]", "417"), Some(0)),
+        (("[0-9][0-9][0-9]", "4A"), None),
+        (("abcd|b", ""), Some(1)),
+        (("abcd|b", "a"), Some(3)),
+        (("abcd|b", "abc"), Some(1)),
+        (("(aa)*b", "aaa"), Some(2)),
+        (("(abc)+", "abc"), Some(0)),
+        (("(abc)+", "abca"), Some(2)),
+    ];
+    agree(&rows, |(pattern, text)| {
+        let machine = machine(pattern);
+        let more = machine.fewest_more(machine.state_after(text));
+        match (machine.matches(text), more) {
+            (Match::Accepted, Some(0)) | (Match::Dead { .. }, None) => (),
+            (Match::Unfinished { fewest_more, .. }, Some(1..)) => {
+                assert_eq!(Some(fewest_more), more);
+            }
+            (answer, _) => panic!("{pattern} {text:?}: {answer:?}, {more:?}"),
+        }
+        more
+    });
+    let longest = machine(&"a".repeat(63));
+    assert_eq!(longest.fewest_more(0), Some(63));
+    // There are no states from their number on, though the room has bytes for 128.
+    for state in [longest.states(), 127, 128, usize::MAX] {
+        assert_eq!(longest.fewest_more(state), None);
+    }
 }
 
 #[test]
@@ -127,28 +171,41 @@ fn damaged_forms_are_refused() {
 
 #[test]
 fn rooms_from_outside_are_judged() {
-    // A place in the room of a*, and the byte that is put there.
-    let rows = [
-        ((0, 2), Ok(2)),
-        ((0, 0), Err(Refusal::Form)),
-        ((0, 129), Err(Refusal::Form)),
-        ((1, 65), Err(Refusal::Form)),
-        ((2, 1), Ok(2)),
-        ((2, 2), Err(Refusal::Form)),
-        ((259, 1), Ok(2)),
-        ((259, 2), Err(Refusal::Form)),
-        ((260, 1), Err(Refusal::Form)),
-        ((386, 2), Err(Refusal::Form)),
-        ((limits::ROOM - 1, 1), Err(Refusal::Form)),
+    // Places in the room of a*, and the bytes that are put there. Its ways, from 8,578 on, are 0 and 65,535.
+    let rows: Vec<(Vec<(usize, u8)>, Result<usize, Refusal>)> = vec![
+        (vec![(0, 2)], Ok(2)),
+        (vec![(0, 0)], Err(Refusal::Form)),
+        (vec![(0, 129)], Err(Refusal::Form)),
+        (vec![(1, 65)], Err(Refusal::Form)),
+        (vec![(2, 1)], Ok(2)),
+        (vec![(2, 2)], Err(Refusal::Form)),
+        (vec![(259, 1), (8_580, 0), (8_581, 0)], Ok(2)),
+        (vec![(259, 1)], Err(Refusal::Form)),
+        (vec![(259, 2)], Err(Refusal::Form)),
+        (vec![(260, 1)], Err(Refusal::Form)),
+        (vec![(386, 2)], Err(Refusal::Form)),
+        (vec![(389, 0), (8_580, 0), (8_581, 1)], Ok(2)),
+        (vec![(389, 0), (8_580, 1), (8_581, 0)], Err(Refusal::Form)),
+        (vec![(389, 0), (8_580, 0), (8_581, 2)], Err(Refusal::Form)),
+        (vec![(389, 0)], Err(Refusal::Form)),
+        (vec![(8_577, 1)], Err(Refusal::Form)),
+        (vec![(8_578, 1)], Err(Refusal::Form)),
+        (vec![(8_579, 1)], Err(Refusal::Form)),
+        (vec![(8_580, 0), (8_581, 0)], Err(Refusal::Form)),
+        (vec![(8_581, 254)], Err(Refusal::Form)),
+        (vec![(8_582, 1)], Err(Refusal::Form)),
+        (vec![(8_833, 1)], Err(Refusal::Form)),
     ];
     let room = *machine("a*").room();
-    agree(&rows, |&(place, byte)| {
+    agree(&rows, |puts| {
         let mut room = room;
-        room[place] = byte;
+        puts.iter().for_each(|&(place, byte)| room[place] = byte);
         Machine::from_room(room).map(|machine| machine.states())
     });
     let lengths = [
         (0, Err(Refusal::Room)),
+        // As long as a room was before it had ways.
+        (8_578, Err(Refusal::Room)),
         (limits::ROOM - 1, Err(Refusal::Room)),
         (limits::ROOM, Ok(machine("a*"))),
         (limits::ROOM + 1, Ok(machine("a*"))),
@@ -164,6 +221,7 @@ fn rooms_from_outside_are_judged() {
 fn machines_that_are_not_canonical_are_minimised_before_packing() {
     let mut room = *machine("a*").room();
     room[259] = 1;
+    room[8_580..8_582].fill(0);
     let all = Machine::from_room(room).unwrap();
     assert_eq!(all.matches("anything"), Match::Accepted);
     assert_eq!(all.pack(), Err(Refusal::Form));
@@ -309,8 +367,9 @@ fn refusals_have_their_number_place_and_sentence() {
 fn the_sizes_are_those_of_the_rules() {
     assert_eq!(
         (limits::ROOM, limits::FORM, limits::WORD),
-        (8_578, 7_379, 254)
+        (8_834, 7_379, 254)
     );
+    assert_eq!((limits::WAYS_AT, limits::NO_WAY), (8_578, 65_535));
     assert_eq!(
         (limits::FIELDS, limits::TEXT, limits::ENTRY),
         (16, 128, 2_066)
