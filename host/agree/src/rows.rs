@@ -6,6 +6,7 @@ use crate::case::{form_length, Case, Operation};
 use crate::run::{both, Outcome};
 use crate::written::read;
 use cases::samples::{hex, listed};
+use second::limits::WAY_AT;
 use second::machine::head;
 use second::sets::{Automaton, Set};
 
@@ -166,8 +167,8 @@ fn law(row: &[&str]) -> Result<(), String> {
     expect(answer, &row[4..])
 }
 
-/// `PATTERN CHANGES -> minimise ANSWER match ANSWER compare ANSWER pack ANSWER`: the numbers of the four operations on the pattern's room with bytes changed, as
-/// `AT=VALUE` between commas; matching the empty text, comparing with the pattern itself.
+/// `PATTERN CHANGES -> minimise ANSWER match ANSWER compare ANSWER pack ANSWER`: the numbers of the four operations on the pattern's room with bytes changed;
+/// matching the empty text, comparing with the pattern itself.
 fn room(row: &[&str]) -> Result<(), String> {
     let whole = compiled(row[0])?;
     let mut changed = whole.clone();
@@ -184,12 +185,27 @@ fn room(row: &[&str]) -> Result<(), String> {
     )
 }
 
-/// Makes the changes `AT=VALUE` between commas; `-` is none.
+/// Makes the changes `AT=VALUE` between commas, in a room also `wSTATE=WAY` and `wFIRST-LAST=WAY`; `-` is none.
 fn change(bytes: &mut [u8], changes: &str) -> Result<(), String> {
     for change in changes.split(',').filter(|&change| change != "-") {
         let (at, value) = change.split_once('=').ok_or("a change is AT=VALUE")?;
+        if let Some(states) = at.strip_prefix('w') {
+            put_ways(bytes, states, value.parse().map_err(|_| "not a way")?)?;
+            continue;
+        }
         let at: usize = at.parse().map_err(|_| "not a place")?;
         bytes[at] = value.parse().map_err(|_| "not a byte")?;
+    }
+    Ok(())
+}
+
+/// Gives a way to a state of a room, or to all states from one to another.
+fn put_ways(room: &mut [u8], states: &str, way: u16) -> Result<(), String> {
+    let (first, last) = states.split_once('-').unwrap_or((states, states));
+    let number = |word: &str| word.parse().map_err(|_| "not a state");
+    let (first, last): (usize, usize) = (number(first)?, number(last)?);
+    for state in first..=last {
+        room[WAY_AT + 2 * state..][..2].copy_from_slice(&way.to_be_bytes());
     }
     Ok(())
 }

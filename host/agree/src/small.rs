@@ -45,6 +45,35 @@ pub fn machines(states: usize, classes: usize, class: usize) -> impl Iterator<It
     })
 }
 
+/// The rooms of a machine with each of these ways for each of its states, in every way.
+pub fn ways(machine: &Machine, ways: &[u16]) -> Vec<Vec<u8>> {
+    let (room, states) = (machine.room(), machine.states);
+    let numbers: Vec<u8> = (0..ways.len() as u8).collect();
+    let choices = strings(&numbers, states).filter(|choice| choice.len() == states);
+    choices
+        .map(|choice| {
+            let chosen = choice.iter().map(|&number| ways[usize::from(number)]);
+            let bytes: Vec<u8> = chosen.flat_map(u16::to_be_bytes).collect();
+            let mut room = room.clone();
+            room[limits::WAY_AT..][..bytes.len()].copy_from_slice(&bytes);
+            room
+        })
+        .collect()
+}
+
+/// The rooms that differ from a room in one byte of its ways.
+pub fn changed_ways(room: &[u8]) -> impl Iterator<Item = Vec<u8>> + '_ {
+    let places = limits::WAY_AT..limits::ROOM;
+    places.flat_map(move |at| {
+        let values = (0..=255).filter(move |&value| value != room[at]);
+        values.map(move |value| {
+            let mut room = room.to_vec();
+            room[at] = value;
+            room
+        })
+    })
+}
+
 /// A case with each of its buffers short by one, exact and longer by three, in every way, zero and dirty.
 pub fn buffers(operation: Operation, reads: &[&[u8]], exact: usize) -> Vec<Case> {
     let rooms = match operation {

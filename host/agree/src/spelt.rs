@@ -1,12 +1,14 @@
 //! Cases spelt by bytes: every string of bytes spells a case of an operation. This is what the fuzzer's targets read.
 //!
-//! The first byte says which buffers are short or longer and what is in them. A room is spelt by a pattern or by a table, and then by a few changed bytes.
+//! The first byte says which buffers are short or longer and what is in them. A room is spelt by a pattern or by a table, and then by a few changed bytes. It has the
+//! right ways, unless other ones are spelt.
 
 use second::desk::Desk;
 use second::form;
 use second::limits;
 use second::machine::Machine;
 use second::smallest::smallest;
+use second::ways;
 
 use crate::case::{form_length, Case, Operation};
 
@@ -96,16 +98,29 @@ impl Spelt<'_> {
         }
     }
 
-    /// A room, with up to three bytes changed, of the exact length, short by one or longer.
+    /// A room, with up to three bytes changed before its ways, of the exact length, short by one or longer.
     fn room(&mut self) -> Vec<u8> {
         let kind = self.byte();
         let mut room = self.machine(kind).room();
         for _ in 0..kind >> 2 & 3 {
             let at = self.below(256) * 256 + self.below(256);
-            room[at % limits::ROOM] = self.byte();
+            room[at % limits::WAY_AT] = self.byte();
         }
+        self.ways(kind >> 6, &mut room);
         room.resize(length(limits::ROOM, kind >> 4), 0xe1);
         room
+    }
+
+    /// The ways of a changed room: the right ones, those from before the changes, or the right ones with the bits of one changed.
+    fn ways(&mut self, kind: u8, room: &mut [u8]) {
+        if kind != 2 {
+            ways::mend(room);
+        }
+        if kind == 3 {
+            let at = limits::WAY_AT + 2 * self.below(limits::STATES);
+            room[at] ^= self.byte();
+            room[at + 1] ^= self.byte();
+        }
     }
 
     /// The bytes that are left, or the form of a room with up to three bytes changed, cut or longer by one.

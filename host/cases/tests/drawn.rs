@@ -35,7 +35,7 @@ fn drawn_damage_makes_rooms_unsound() {
 
 #[test]
 fn drawn_damage_to_ways_makes_rooms_unsound() {
-    use WayDamage::{Class, Exchanged, Old, Zero};
+    use WayDamage::{Class, Old, Zero};
     let mut draw = Draw::new(11);
     let mut seen = HashMap::new();
     for _ in 0..400 {
@@ -43,7 +43,7 @@ fn drawn_damage_to_ways_makes_rooms_unsound() {
         for damage in WAY_DAMAGES {
             let other = draw.damaged_ways(&room, damage);
             assert!(Machine::table(&other).is_some(), "{damage:?}");
-            let may_stay = [Exchanged, Zero, Class, Old].contains(&damage);
+            let may_stay = [Zero, Class, Old].contains(&damage);
             assert!(may_stay || !sound(&other), "{damage:?}");
             *seen.entry(format!("{damage:?}")).or_insert(0) += usize::from(!sound(&other));
         }

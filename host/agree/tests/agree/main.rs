@@ -7,6 +7,7 @@ mod drawn;
 mod kept;
 mod rows;
 mod small;
+mod spelt;
 
 use std::io::Write;
 

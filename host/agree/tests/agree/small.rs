@@ -5,19 +5,21 @@ use agree::many::Tally;
 use agree::{both, small, Case, Operation};
 use cases::exhaustive::strings;
 use second::derive::Language;
+use second::desk::BACK;
 use second::judge::judge;
 use second::limits;
 
 use crate::say;
 
 /// Runs all cases, says how many of what they were, and fails if one differs.
-pub fn all(what: &str, cases: impl Iterator<Item = Case>) {
+pub fn all(what: &str, cases: impl Iterator<Item = Case>) -> Tally {
     let mut tally = Tally::default();
     for (number, case) in cases.enumerate() {
         tally.run(&format_args!("{what}, case {number}"), &case);
     }
     say(format!("agree: {} cases, {what}\n{tally}", tally.cases));
     tally.check();
+    tally
 }
 
 /// The room of a pattern that is taken.
@@ -114,13 +116,68 @@ fn all_small_machines() {
     );
 }
 
+/// The cases of a room for each operation that judges one.
+fn judging(room: &[u8]) -> Vec<Case> {
+    let whole = second::machine(b"a").expect("a taken pattern").room();
+    vec![
+        Case::new(Operation::Minimise, &[room]),
+        Case::new(Operation::Compare, &[room, &whole]),
+        Case::new(Operation::Compare, &[&whole, room]),
+        Case::new(Operation::Pack, &[room]),
+        Case::opening(1, room, &[0xa5; limits::ENTRY_FORM]),
+        Case::pressing(room, &small::forms(1, &whole, b"", 0)[0], BACK),
+    ]
+}
+
+#[test]
+fn all_ways_of_small_machines() {
+    let choices = [0, 1, 2, 3, 256, 65534, 65535];
+    let sizes = [(1, 1, 0), (2, 1, 0), (2, 2, 0), (2, 2, 1), (3, 1, 0)];
+    let rooms = || {
+        let machines = sizes
+            .into_iter()
+            .flat_map(|(states, classes, class)| small::machines(states, classes, class));
+        machines.flat_map(move |machine| small::ways(&machine, &choices))
+    };
+    let tally = all(
+        "all choices of ways for machines of up to 3 states, matched",
+        rooms().map(|room| Case::new(Operation::Match, &[&room, b""])),
+    );
+    // For each machine one of the choices is right.
+    let machines = sizes.map(|(states, classes, class)| {
+        let machines = small::machines(states, classes, class);
+        machines.count() as u64
+    });
+    let wrong = tally.answers[&(Operation::Match, 9)];
+    assert_eq!(tally.cases - wrong, machines.iter().sum());
+    all(
+        "some choices of ways for machines of up to 3 states, by the other operations",
+        rooms().step_by(11).flat_map(|room| judging(&room)),
+    );
+}
+
+#[test]
+fn all_changes_of_one_byte_of_the_ways() {
+    let room = room(b"(ab*|a)b");
+    let matched = |room: Vec<u8>| Case::new(Operation::Match, &[&room, b"a"]);
+    let tally = all(
+        "all changes of one byte of the ways",
+        small::changed_ways(&room).map(matched),
+    );
+    assert_eq!(tally.answers[&(Operation::Match, 9)], 256 * 255);
+}
+
 #[test]
 fn all_lengths_of_buffers() {
     let (good, other) = (room(b"a*b"), room(b"a*bb"));
     let mut bad = good.clone();
-    bad[8577] = 1;
+    bad[limits::WAY_AT - 1] = 1;
+    let mut astray = good.clone();
+    astray[limits::WAY_AT + 1] += 1;
+    // A fourth state, which leads to the first, and so needs one byte more than that.
     let mut double = good.clone();
     double[0] += 1;
+    double[limits::WAY_AT + 7] = 2;
     let form = second::form::packed(&second::machine(b"a*b").expect("a taken pattern"));
     let long = b"*".repeat(limits::PATTERN + 1);
     let exact = form_length(usize::from(good[0]), usize::from(good[1]));
@@ -128,7 +185,7 @@ fn all_lengths_of_buffers() {
     for pattern in [&b"a*b"[..], b"a|", b"[b-a]", &long, b""] {
         cases.extend(small::buffers(Operation::Compile, &[pattern], limits::ROOM));
     }
-    for room in [&good, &bad, &double] {
+    for room in [&good, &bad, &astray, &double] {
         cases.extend(small::buffers(Operation::Minimise, &[room], limits::ROOM));
         cases.extend(small::buffers(Operation::Match, &[room, b"aab"], 0));
         cases.extend(small::buffers(Operation::Pack, &[room], exact));

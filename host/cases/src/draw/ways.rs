@@ -42,9 +42,9 @@ pub const WAY_DAMAGES: [WayDamage; 9] = [
 ];
 
 impl Draw {
-    /// A sound room with damage of any kind, once in four times to its ways.
+    /// A sound room with damage of any kind, once in three times to its ways.
     pub fn any_damage(&mut self, room: &[u8]) -> Vec<u8> {
-        if self.once_in(4) {
+        if self.once_in(3) {
             let damage = self.pick(&WAY_DAMAGES);
             return self.damaged_ways(room, damage);
         }
@@ -52,12 +52,17 @@ impl Draw {
         self.damaged_room(room, damage)
     }
 
-    /// A sound room with damage of a kind to its ways alone; bytes exchanged, zeros, and the ways of another machine may be right all the same.
+    /// A sound room with damage of a kind to its ways alone; zeros and the ways of another machine may be right all the same.
     pub fn damaged_ways(&mut self, room: &[u8], damage: WayDamage) -> Vec<u8> {
         let machine = Machine::read(room).expect("a sound room");
         let ways = ways(&machine);
         let (live, dead): (Vec<usize>, Vec<usize>) =
             (0..machine.states).partition(|&state| ways[state].is_some());
+        let far: Vec<usize> = live
+            .iter()
+            .copied()
+            .filter(|&state| ways[state] > Some(0))
+            .collect();
         let mut room = room.to_vec();
         match damage {
             WayDamage::Live if !live.is_empty() => put(&mut room, self.pick(&live), NO_WAY),
@@ -65,8 +70,8 @@ impl Draw {
                 let way = self.pick(&[0, 1, machine.states as u16, 256, NO_WAY - 1]);
                 put(&mut room, self.pick(&dead), way);
             }
-            WayDamage::Exchanged => {
-                let at = WAY_AT + 2 * self.below(machine.states);
+            WayDamage::Exchanged if !far.is_empty() => {
+                let at = WAY_AT + 2 * self.pick(&far);
                 room.swap(at, at + 1);
             }
             WayDamage::Unused if machine.states < STATES => {
