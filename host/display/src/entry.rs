@@ -9,7 +9,7 @@ use crate::keys::{Keys, Paste, Press};
 use crate::names;
 use crate::screen::{Mark, Shown, View};
 use crate::table::Table;
-use palgondur::{limits, Desk};
+use palgondur::{limits, Desk, KeyRefusal};
 use unicode_width::UnicodeWidthStr;
 
 /// The keys that are the display's own: Ctrl-C leaves the form, Ctrl-R shows what is masked, or masks it again.
@@ -150,7 +150,15 @@ impl Entry {
                 }
                 Ok(())
             }
-            Err(refusal) => Err((names::byte(key), refusal.to_string())),
+            Err(refusal) => Err((names::byte(key), self.reason(refusal))),
+        }
+    }
+
+    /// Why the desk refused a key; of a text that is not finished, what it wants.
+    fn reason(&self, refusal: KeyRefusal) -> String {
+        match (refusal, self.desk.open_field()) {
+            (KeyRefusal::Unfinished, Some(open)) => self.wants(open, " to finish"),
+            _ => refusal.to_string(),
         }
     }
 
@@ -215,15 +223,7 @@ impl Entry {
     /// What is shown of the entry.
     pub fn view(&self) -> View {
         let fields = (0..self.desk.fields()).map(|number| self.shown(number));
-        let hint = self.desk.open_field().map_or(String::new(), |open| {
-            let field = &self.form.fields[open];
-            let refusals = match self.refusals {
-                0 => String::new(),
-                1 => " (1 key refused)".to_string(),
-                many => format!(" ({many} keys refused)"),
-            };
-            format!("{}: {}{refusals}", field.label, field.hint)
-        });
+        let open = self.desk.open_field();
         let show = match (self.has_masked(), self.clear) {
             (false, _) => "",
             (true, false) => " Ctrl-R shows what is masked,",
@@ -232,7 +232,7 @@ impl Entry {
         View {
             title: self.form.title.clone(),
             fields: fields.collect(),
-            hint,
+            hint: open.map_or(String::new(), |open| self.hint(open)),
             message: self.message.clone(),
             help: format!(
                 "Enter closes the open field, Backspace takes back a byte,{show} Ctrl-C leaves."
@@ -240,11 +240,44 @@ impl Entry {
         }
     }
 
+    /// What a field wants, in its author's words and counted, and how many keys it refused.
+    fn hint(&self, number: usize) -> String {
+        let Field { label, hint, .. } = &self.form.fields[number];
+        let refusals = match self.refusals {
+            0 => String::new(),
+            1 => "1 key refused".to_string(),
+            many => format!("{many} keys refused"),
+        };
+        let mut notes = vec![self.wants(number, ""), refusals];
+        notes.retain(|note| !note.is_empty());
+        match &notes[..] {
+            [] => format!("{label}: {hint}"),
+            _ => format!("{label}: {hint} ({})", notes.join("; ")),
+        }
+    }
+
+    /// The fewest bytes that make the text of a field accepted; none, if there is no way.
+    fn more(&self, number: usize) -> Option<usize> {
+        let table = &self.tables[number];
+        table.more(table.after(self.desk.text(number).unwrap_or_default()))
+    }
+
+    /// How many bytes more a field wants at least, and for what; nothing, if its text is accepted.
+    fn wants(&self, number: usize, what: &str) -> String {
+        let room = limits::TEXT - self.desk.text(number).map_or(0, <[u8]>::len);
+        match (self.more(number), room) {
+            (None, _) => "no text is accepted".to_string(),
+            (Some(0), _) => String::new(),
+            (Some(more), _) if more <= room => format!("at least {more} more{what}"),
+            (Some(more), 0) => format!("at least {more} more{what}, but room for none"),
+            (Some(more), _) => format!("at least {more} more{what}, but room for only {room}"),
+        }
+    }
+
     /// A field, as it is shown.
     fn shown(&self, number: usize) -> Shown {
         let text = self.desk.text(number).unwrap_or_default();
-        let table = &self.tables[number];
-        let more = table.more(table.after(text)).unwrap_or(0);
+        let more = self.more(number).unwrap_or(0);
         let field = &self.form.fields[number];
         Shown {
             mark: match self.desk.open_field() {

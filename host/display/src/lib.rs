@@ -10,7 +10,7 @@
 //! | [`names`] | what a press is called |
 //! | [`entry`] | what a press does to the form |
 //! | [`form`] | the form's file |
-//! | [`table`] | how many bytes a text wants yet |
+//! | [`table`] | a machine, walked byte by byte |
 //! | [`screen`] | the form, laid out for any size |
 #![deny(missing_docs)]
 #![deny(unsafe_op_in_unsafe_fn)]

@@ -1,5 +1,6 @@
 //! The display in a pseudo-terminal, its screen read by an emulator of a terminal.
 
+mod counts;
 mod drawn;
 mod files;
 mod keys;
@@ -33,11 +34,15 @@ fn shown(display: &Display, label: &str) -> (String, String) {
         .trim()
         .trim_end_matches('_')
         .to_string();
-    // After the fields a blank line, the hint, then the message up to a blank line.
-    let below = rows
+    // After the fields a blank line, the hint, which ends in a parenthesis that may be in its second line, then the message up to a blank line.
+    let hint = rows
         .iter()
         .position(|row| row.starts_with("  ") && row.contains(": "));
-    let below = rows.iter().skip(below.map_or(rows.len(), |row| row + 1));
+    let end = |row: usize| match rows[row].contains('(') && !rows[row].contains(')') {
+        true => row + 2,
+        false => row + 1,
+    };
+    let below = rows.iter().skip(hint.map_or(rows.len(), end));
     let message: Vec<&str> = below
         .map(|row| row.trim())
         .take_while(|row| !row.is_empty())
@@ -55,7 +60,7 @@ fn the_form_is_drawn() {
         "          check value    ______",
         "          card serial    _________",
         "",
-        "  key component: 32 hex digits, in capitals",
+        "  key component: 32 hex digits, in capitals (at least 32 more)",
         "",
         "",
         "  Enter closes the open field, Backspace takes back a byte, Ctrl-R shows what is",
@@ -74,7 +79,7 @@ fn the_form_is_drawn() {
 #[test]
 fn the_form_is_filled_in() {
     let dead = |key: &str| format!("{key} refused: no text of this field goes on this way");
-    let early = || "Enter refused: the text of this field is not finished".to_string();
+    let early = |more: usize| format!("Enter refused: at least {more} more to finish");
     let none = String::new;
     let (component, check, serial) = ("0123456789ABCDEFFEDCBA9876543210", "8CA64D", "PK-004711");
     let stars = |length: usize| "*".repeat(length);
@@ -89,14 +94,14 @@ fn the_form_is_filled_in() {
         ("G", first(&stars(4), dead("'G'"))),
         ("a", first(&stars(4), dead("'a'"))),
         ("4", first(&stars(5), none())),
-        ("\r", first(&stars(5), early())),
+        ("\r", first(&stars(5), early(27))),
         ("\x7F", first(&stars(4), none())),
         ("\x08", first(&stars(3), none())),
         (" ", first(&stars(3), dead("Space"))),
         ("\x01", first(&stars(3), dead("Ctrl-A"))),
         ("\x12", first(&component[..3], none())),
         (&component[3..31], first(&component[..31], none())),
-        ("\r", first(&component[..31], early())),
+        ("\r", first(&component[..31], early(1))),
         ("0", first(component, none())),
         ("0", first(component, dead("'0'"))),
         ("\x12", first(&stars(32), none())),
@@ -104,7 +109,7 @@ fn the_form_is_filled_in() {
         // A closed field is not opened again.
         ("\x7F\x7F", second("", none())),
         ("8CA64", second("8CA64", none())),
-        ("\r", second("8CA64", early())),
+        ("\r", second("8CA64", early(1))),
         ("D", second(check, none())),
         ("\r", third("", none())),
         ("P", third("P", none())),

@@ -7,7 +7,7 @@ use display::screen::{lay_out, Mark, Shown, View};
 #[test]
 fn a_small_screen_shows_the_open_field() {
     let mut display = Display::start(&[&form("hex")], (4, 20));
-    let rows: [(&[u8], [&str; 4], (u16, u16)); 6] = [
+    let rows: [(&[u8], [&str; 4], (u16, u16)); 7] = [
         (
             b"01",
             ["open component", "01______________", "secret", ""],
@@ -20,6 +20,16 @@ fn a_small_screen_shows_the_open_field() {
                 "01______________",
                 "'G' refused: no text",
                 "of this field goes..",
+            ],
+            (1, 2),
+        ),
+        (
+            b"\r",
+            [
+                "open component",
+                "01______________",
+                "Enter refused: at",
+                "least 14 more to..",
             ],
             (1, 2),
         ),
