@@ -4,16 +4,23 @@ They come from host/agree/rows and from what `samples` prints; some patterns and
 import random
 import re
 
-ROOM, BYTES, WORDS, WORD, ENTRY = 8578, 32768, 256, 254, 2066
+WAYS_AT, ROOM, BYTES, WORDS, WORD, ENTRY = 8578, 8834, 32768, 256, 254, 2066
 EXACT = ROOM, BYTES, WORDS, 0
-# The room of `(a|b)*`, as it is compiled.
-EITHER = bytes([2, 2, *[int(b in b"ab") for b in range(256)], 1, *[0] * 127, 1, 0, 1, 1])
-# Rooms that are not as compiled.
+# The way of a state from which nothing leads to acceptance.
+NONE = 65535
+# The room of `(a|b)*`, as it is compiled, and its ways.
+EITHER = bytes([2, 2, *[int(b in b"ab") for b in range(256)], 1, *[0] * 127, 1, 0, 1, 1]), [0, NONE]
+# Rooms that are not as compiled, and their ways.
 WRITTEN = {
-    "the room of `a` with the states 1 and 2 exchanged": bytes([3, 2, *[int(b == 97) for b in range(256)], 0, 1, 0, *[0] * 125, 2, 1, 2, 2, 2, 2]),
-    "a room of one state and two classes": bytes([1, 2, *[int(b == 97) for b in range(256)], *[0] * 128]),
-    "a room of two states where no byte has the class 0": bytes([2, 2, *[1] * 256, 0, 1, *[0] * 126, 1, 0, 1, 1]),
-    "a room where 0 leads to 2, 2 to 1 and 1 to 3": bytes([4, 1, *[0] * 256, 0, 0, 0, 1, *[0] * 124, 2, 3, 1, 3]),
+    "the room of `a` with the states 1 and 2 exchanged": (bytes([3, 2, *[int(b == 97) for b in range(256)], 0, 1, 0, *[0] * 125, 2, 1, 2, 2, 2, 2]), [1, 0, NONE]),
+    "a room of one state and two classes": (bytes([1, 2, *[int(b == 97) for b in range(256)], *[0] * 128]), [NONE]),
+    "a room of two states where no byte has the class 0": (bytes([2, 2, *[1] * 256, 0, 1, *[0] * 126, 1, 0, 1, 1]), [NONE, 0]),
+    "a room where 0 leads to 2, 2 to 1 and 1 to 3": (bytes([4, 1, *[0] * 256, 0, 0, 0, 1, *[0] * 124, 2, 3, 1, 3]), [3, 1, 2, 0]),
+    "a room where a class that no byte has leads to acceptance sooner": (bytes([3, 2, *[0] * 256, 0, 0, 1, *[0] * 125, 1, 2, 2, 2, 2, 2]), [2, 1, 0]),
+    "a room with a way through a class that no byte has": (bytes([3, 2, *[0] * 256, 0, 0, 1, *[0] * 125, 1, 2, 2, 2, 2, 2]), [1, 1, 0]),
+    "a room where nothing reaches the states 1 and 2": (bytes([3, 1, *[0] * 256, 1, 0, 0, *[0] * 125, 0, 2, 0]), [0, 2, 1]),
+    "a room with a wrong way of a state that nothing reaches": (bytes([3, 1, *[0] * 256, 1, 0, 0, *[0] * 125, 0, 2, 0]), [0, 1, 1]),
+    "a chain of 128 states": (bytes([128, 1, *[0] * 256, *[0] * 127, 1, *range(1, 128), 127]), [*range(127, -1, -1)]),
 }
 
 
@@ -89,11 +96,23 @@ class Rows:
             group.append((row("c", *EXACT, text=spelt(pattern)), f"compiling {named(pattern)}"))
             group.append((row("v", i * ROOM), ""))
 
+    def room(self, group, at, front, ways):
+        """Writes a room: its bytes up to the last cell that is not 0, and the way of each of its states."""
+        group.append((row("b", at, text=front), ""))
+        group.append((row("w", at + WAYS_AT, text=spelt_ways(ways)), ""))
+
     def change(self, group, letter, changes):
+        """Changes bytes, AT=VALUE, and ways, wSTATE=WAY or wFIRST-LAST=WAY."""
         for change in changes.split(","):
-            if change != "-":
-                at, value = change.split("=")
-                group.append((row(letter, at, value), ""))
+            if change == "-":
+                continue
+            at, value = change.split("=")
+            if at[0] == "w":
+                first, last = (at[1:].split("-") * 2)[:2]
+                ways = [int(value)] * (int(last) - int(first) + 1)
+                group.append((row("w", WAYS_AT + 2 * int(first), text=spelt_ways(ways)), ""))
+            else:
+                group.append((row(letter, at, text=bytes([int(value)])), ""))
 
     def compiling(self):
         texts = []
@@ -131,18 +150,18 @@ class Rows:
         for text in self.texts:
             group = self.group()
             self.rooms(group, [text])
-            group.append((row("b", ROOM, text=EITHER), ""))
+            self.room(group, ROOM, *EITHER)
             self.on_room(group, f"the room of {named(text)}", b"ab", self.lengths.get(text, 7379), text in ("a*", "(ab*|a)b"))
         for (pattern, changes), _ in self.read("rooms"):
             group = self.group()
             self.rooms(group, [pattern])
-            group.append((row("b", ROOM, text=EITHER), ""))
+            self.room(group, ROOM, *EITHER)
             self.change(group, "w", changes)
-            self.on_room(group, f"the room of {named(pattern)} with {changes}", whole=changes in ("0=3", "2=2"))
+            self.on_room(group, f"the room of {named(pattern)} with {changes}", whole=changes in ("0=3,w2=1", "2=2"))
         for name, room in WRITTEN.items():
             group = self.group()
-            group.append((row("b", 0, text=room), ""))
-            group.append((row("b", ROOM, text=EITHER), ""))
+            self.room(group, 0, *room)
+            self.room(group, ROOM, *EITHER)
             self.on_room(group, name)
 
     def matching(self):
@@ -197,7 +216,7 @@ class Rows:
             self.rooms(group, ["a" if pattern == "unsound" else pattern for pattern in patterns])
             for i, pattern in enumerate(patterns):
                 if pattern == "unsound":
-                    group.append((row("w", i * ROOM + ROOM - 1, 1), ""))
+                    group.append((row("w", i * ROOM + ROOM - 1, text=b"\1"), ""))
             group.append((row("o", count, length, form, 165), f"opening {count} fields, a form of {form} bytes and rooms of {length}, {' '.join(map(named, patterns))}"))
 
     def desk(self, keys, patterns):
@@ -223,7 +242,7 @@ class Rows:
             group.append((row("y", rooms, form, text=b"a"), f"the key `a` on a form of {form} bytes and rooms of {rooms}"))
         for field in range(3):
             group = self.desk("a%0d", ["a*"] * 3)
-            group.append((row("w", (field + 1) * ROOM - 1, 1), ""))
+            group.append((row("w", (field + 1) * ROOM - 1, text=b"\1"), ""))
             group.append((row("y", 3 * ROOM, ENTRY, text=b"a"), f"the key `a` on the second of three fields, where the machine of field {field + 1} is not sound"))
 
     def reports(self):
@@ -233,11 +252,11 @@ class Rows:
     def drawn(self):
         for i in range(90):
             group = self.group()
-            group.append((row("b", ROOM, text=EITHER), ""))
-            group.append((row("b", 0, text=drawn_room(random.Random(i), i)), ""))
+            self.room(group, ROOM, *EITHER)
+            self.room(group, 0, *drawn_room(random.Random(i), i))
             self.on_room(group, f"the drawn room {i}", b"ab", whole=i < 2)
             if i:
-                group.append((row("b", ROOM, text=drawn_room(random.Random(i - 1), i - 1)), ""))
+                self.room(group, ROOM, *drawn_room(random.Random(i - 1), i - 1))
                 group.append((row("e", 0, ROOM, ROOM, ROOM, WORD, BYTES, WORDS, 165), f"comparing the drawn rooms {i} and {i - 1}"))
 
 
@@ -253,12 +272,27 @@ def drawn_pattern(deep):
     return f"({drawn_pattern(deep - 1)})*"
 
 
+def spelt_ways(ways):
+    return b"".join(way.to_bytes(2, "big") for way in ways)
+
+
+def ways_home(classes, marks, rows):
+    """The fewest bytes from each state to acceptance: those of no byte first, then those of one, and so on."""
+    ways = [0 if mark else NONE for mark in marks]
+    for way in range(len(rows)):
+        near = [q for q, row in enumerate(rows) if ways[q] == NONE and any(ways[row[c]] == way for c in set(classes))]
+        for q in near:
+            ways[q] = way + 1
+    return ways
+
+
 def drawn_room(draw, i):
-    """A sound room, of few states or of many."""
+    """A sound room, of few states or of many, and its ways."""
     n = draw.randrange(1, 8) if i < 60 else draw.randrange(40, 129)
     k = draw.randrange(1, 5)
     near = i % 3 == 0
     classes = [draw.randrange(k) if 96 < b < 104 else 0 for b in range(256)]
     marks = [int(draw.randrange(n) < (1 if i >= 60 else n / 2)) for _ in range(n)]
     cells = [min(n - 1, q + draw.randrange(2)) if near else draw.randrange(n) for q in range(n) for _ in range(k)]
-    return bytes([n, k, *classes, *marks, *[0] * (128 - n), *cells])
+    ways = ways_home(classes, marks, [cells[q * k : q * k + k] for q in range(n)])
+    return bytes([n, k, *classes, *marks, *[0] * (128 - n), *cells]), ways

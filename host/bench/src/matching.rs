@@ -24,7 +24,7 @@ pub fn measure(subjects: &[Subject]) -> Vec<Target> {
     let about = "Other: the loop over classes and cells written in safe Rust; the same with `get_unchecked`; `RE2::FullMatch` in Latin-1. The loops do not judge the room. The star patterns accept their text; a pattern of fixed length is dead after a few bytes, and ours and the loops run through the rest in the dead state (RE2 would stop there, and is left out).";
     table::print("Matching 64 MB (64,000,000 bytes)", about, &long);
     let short: Vec<Row> = subjects.iter().flat_map(short).collect();
-    let about = "Ours judges the soundness of the room each time. Other: the 8,578 bytes of the room read once, as their sum in one byte, which the compiler makes a loop over many bytes at a time; their sum in 64 bits, which is much slower and no measure of reading; `RE2::FullMatch`. The target goes by the first.";
+    let about = "Ours judges the soundness of the room each time. Other: the 8,834 bytes of the room read once, as their sum in one byte, which the compiler makes a loop over many bytes at a time; their sum in 64 bits, which is much slower and no measure of reading; `RE2::FullMatch`. The target goes by the first.";
     table::print("Matching 32 bytes", about, &short);
     vec![
         Target::new(

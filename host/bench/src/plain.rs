@@ -1,17 +1,13 @@
 //! What stands beside matching: plain loops over the same table, and one reading of the room.
 
-use palgondur::limits::{ROOM, STATES};
-
-const CLASSES_AT: usize = 2;
-const MARKS_AT: usize = CLASSES_AT + 256;
-const CELLS_AT: usize = MARKS_AT + STATES;
+use palgondur::limits::{CELLS_AT, CLASSES_AT, MARKS_AT, ROOM, WAYS_AT};
 
 /// Whether the machine of a room accepts the text: the natural safe loop. The room is not judged.
 #[inline(never)]
 pub fn safe(room: &[u8], text: &[u8]) -> bool {
     let k = room[1] as usize;
     let classes = &room[CLASSES_AT..MARKS_AT];
-    let cells = &room[CELLS_AT..ROOM];
+    let cells = &room[CELLS_AT..WAYS_AT];
     let mut q = 0;
     for &byte in text {
         q = cells[q * k + classes[byte as usize] as usize] as usize;
@@ -27,7 +23,7 @@ pub fn safe(room: &[u8], text: &[u8]) -> bool {
 pub unsafe fn unchecked(room: &[u8], text: &[u8]) -> bool {
     let k = room[1] as usize;
     let classes = &room[CLASSES_AT..MARKS_AT];
-    let cells = &room[CELLS_AT..ROOM];
+    let cells = &room[CELLS_AT..WAYS_AT];
     let mut q = 0;
     for &byte in text {
         let class = unsafe { *classes.get_unchecked(byte as usize) };

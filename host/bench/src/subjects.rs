@@ -88,7 +88,7 @@ fn letters(length: usize) -> Vec<u8> {
 }
 
 /// Letters drawn from an alphabet, the same in every run.
-fn drawn(length: usize, alphabet: &[u8]) -> Vec<u8> {
+pub fn drawn(length: usize, alphabet: &[u8]) -> Vec<u8> {
     let mut seed = 0x9E37_79B9_7F4A_7C15_u64;
     let mut draw = || {
         seed ^= seed << 13;
