@@ -8,7 +8,6 @@ use crate::form::{Field, Form};
 use crate::keys::{Keys, Paste, Press};
 use crate::names;
 use crate::screen::{Mark, Shown, View};
-use crate::table::Table;
 use palgondur::{limits, Desk, KeyRefusal};
 use unicode_width::UnicodeWidthStr;
 
@@ -36,7 +35,6 @@ pub enum Stand {
 /// A form that is being filled in.
 pub struct Entry {
     form: Form,
-    tables: Vec<Table>,
     desk: Desk,
     keys: Keys,
     /// What is said of the last keys, and whether one of them was refused.
@@ -53,10 +51,9 @@ pub struct Entry {
 impl Entry {
     /// An entry of a form, all of its fields empty; or in a sentence why there is none.
     pub fn new(form: Form) -> Result<Entry, String> {
-        let (machines, desk) = form.open()?;
+        let desk = form.open()?;
         Ok(Entry {
             form,
-            tables: machines.into_iter().map(Table::new).collect(),
             desk,
             keys: Keys::new(),
             message: String::new(),
@@ -256,16 +253,10 @@ impl Entry {
         }
     }
 
-    /// The fewest bytes that make the text of a field accepted; none, if there is no way.
-    fn more(&self, number: usize) -> Option<usize> {
-        let table = &self.tables[number];
-        table.more(table.after(self.desk.text(number).unwrap_or_default()))
-    }
-
     /// How many bytes more a field wants at least, and for what; nothing, if its text is accepted.
     fn wants(&self, number: usize, what: &str) -> String {
         let room = limits::TEXT - self.desk.text(number).map_or(0, <[u8]>::len);
-        match (self.more(number), room) {
+        match (self.desk.fewest_more(number), room) {
             (None, _) => "no text is accepted".to_string(),
             (Some(0), _) => String::new(),
             (Some(more), _) if more <= room => format!("at least {more} more{what}"),
@@ -277,7 +268,7 @@ impl Entry {
     /// A field, as it is shown.
     fn shown(&self, number: usize) -> Shown {
         let text = self.desk.text(number).unwrap_or_default();
-        let more = self.more(number).unwrap_or(0);
+        let more = self.desk.fewest_more(number).unwrap_or(0);
         let field = &self.form.fields[number];
         Shown {
             mark: match self.desk.open_field() {

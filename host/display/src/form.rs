@@ -59,8 +59,8 @@ impl Form {
         Ok(form)
     }
 
-    /// The machine of each field, and the desk that has them all. A refused pattern is shown with a caret at its place.
-    pub fn open(&self) -> Result<(Vec<Machine>, Desk), String> {
+    /// The desk that has the machine of each field. A refused pattern is shown with a caret at its place.
+    pub fn open(&self) -> Result<Desk, String> {
         let mut machines = Vec::new();
         for (number, field) in self.fields.iter().enumerate() {
             let Field { label, pattern, .. } = field;
@@ -72,8 +72,7 @@ impl Form {
                 )
             })?);
         }
-        let desk = Desk::open(&machines).map_err(|refusal| refusal.to_string())?;
-        Ok((machines, desk))
+        Desk::open(&machines).map_err(|refusal| refusal.to_string())
     }
 }
 

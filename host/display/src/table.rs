@@ -24,11 +24,6 @@ impl Table {
         usize::from(room[limits::CELLS_AT + cell])
     }
 
-    /// The state that a text leads to from the start.
-    pub fn after(&self, text: &[u8]) -> usize {
-        self.machine.state_after(text)
-    }
-
     /// The fewest bytes that lead from a state to acceptance; none, if there is no way.
     pub fn more(&self, state: usize) -> Option<usize> {
         self.machine.fewest_more(state)
@@ -53,7 +48,7 @@ mod tests {
             let table = Table::new(Machine::compile(pattern).unwrap());
             let step = |state, byte| table.next(state, byte);
             let state = text.bytes().fold(Table::START, step);
-            assert_eq!(state, table.after(text.as_bytes()));
+            assert_eq!(state, table.machine.state_after(text));
             assert_eq!(table.more(state), more, "{pattern} after {text:?}");
         }
     }

@@ -1,6 +1,6 @@
 //! The entry desk: a form of fields that takes keys one by one.
 
-use crate::{limits, raw, Machine};
+use crate::{limits, raw, room, Machine};
 use std::fmt;
 
 /// An entry form that is being filled in, with the machine of each of its fields.
@@ -148,6 +148,24 @@ impl Desk {
             let begin = 2 + limits::FIELDS + field * limits::TEXT;
             &self.form[begin..begin + usize::from(self.form[2 + field])]
         })
+    }
+
+    /// The fewest bytes that make the text of a field, counted from 0, one that its machine accepts, 0 where it is one.
+    /// None, if there is no way, or no such field. Whether the field has room for so many is not asked.
+    ///
+    /// ```
+    /// use palgondur::{Desk, Machine};
+    ///
+    /// let mut desk = Desk::open(&[Machine::compile("abcd|b")?, Machine::compile("a*")?])?;
+    /// assert_eq!((desk.fewest_more(0), desk.fewest_more(1)), (Some(1), Some(0)));
+    /// desk.key(b'a')?;
+    /// assert_eq!((desk.fewest_more(0), desk.fewest_more(2)), (Some(3), None));
+    /// # Ok::<(), Box<dyn std::error::Error>>(())
+    /// ```
+    pub fn fewest_more(&self, field: usize) -> Option<usize> {
+        let text = self.text(field)?;
+        let room = &self.rooms[field * limits::ROOM..];
+        room::fewest_more(room, room::state_after(room, text))
     }
 
     /// The form: the two numbers, the length of each text, the texts.

@@ -48,6 +48,7 @@ pub mod limits;
 mod machine;
 pub mod raw;
 mod refusal;
+mod room;
 mod scratch;
 
 pub use desk::{Desk, KeyRefusal, OpenRefusal};

@@ -1,7 +1,7 @@
 //! Machines and what they answer.
 
 use crate::refusal::done;
-use crate::{limits, raw, Form, Refusal, Scratch};
+use crate::{limits, raw, room, Form, Refusal, Scratch};
 use std::fmt;
 
 /// A machine: a sound room of its own.
@@ -241,12 +241,7 @@ impl Machine {
 
     /// The state, counted from 0, that a text leads to from the start, which is state 0.
     pub fn state_after(&self, text: impl AsRef<[u8]>) -> usize {
-        let next = |state: usize, byte: &u8| {
-            let class = self.room[limits::CLASSES_AT + usize::from(*byte)];
-            let cell = state * self.classes() + usize::from(class);
-            usize::from(self.room[limits::CELLS_AT + cell])
-        };
-        text.as_ref().iter().fold(0, next)
+        room::state_after(self.room(), text.as_ref())
     }
 
     /// The fewest bytes that lead from a state to acceptance, 0 where the state accepts. None, if there is no way, or no
@@ -262,14 +257,7 @@ impl Machine {
     /// # Ok::<(), palgondur::Refusal>(())
     /// ```
     pub fn fewest_more(&self, state: usize) -> Option<usize> {
-        if state >= self.states() {
-            return None;
-        }
-        let at = limits::WAYS_AT + 2 * state;
-        match u16::from_be_bytes([self.room[at], self.room[at + 1]]) {
-            limits::NO_WAY => None,
-            way => Some(usize::from(way)),
-        }
+        room::fewest_more(self.room(), state)
     }
 
     /// The room: the two numbers, the class of each byte value, the accept marks, the cells, the ways.

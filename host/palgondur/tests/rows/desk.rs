@@ -494,6 +494,26 @@ fn the_type_tells_what_the_fields_hold() {
 }
 
 #[test]
+fn the_type_tells_how_many_bytes_more_a_field_wants() {
+    let patterns = ["[0-9][0-9]", "abcd|b", "\\0"];
+    // The keys; what each field wants at least, the third has no text at all, and there is no fourth.
+    let rows = [
+        ("", [Some(2), Some(1), None, None]),
+        ("4", [Some(1), Some(1), None, None]),
+        ("42", [Some(0), Some(1), None, None]),
+        ("42\ra", [Some(0), Some(3), None, None]),
+        ("42\ra\x08", [Some(0), Some(1), None, None]),
+        ("42\rabcd\r", [Some(0), Some(0), None, None]),
+    ];
+    agree(&rows, |keys| {
+        let mut desk = Desk::open(&machines(&patterns)).unwrap();
+        assert!(keys.bytes().all(|key| desk.key(key).is_ok()));
+        assert_eq!(desk.fewest_more(usize::MAX), None);
+        [0, 1, 2, 3].map(|field| desk.fewest_more(field))
+    });
+}
+
+#[test]
 fn the_desk_does_not_show_what_was_typed() {
     let mut desk = Desk::open(&machines(&["5*", "a"])).unwrap();
     assert!(b"55\r".iter().all(|key| desk.key(*key).is_ok()));
