@@ -1,4 +1,4 @@
--- The report is determined. Whatever rooms and scratch a text is compiled into, number and place are one, and after Done so are the 8,578 bytes of the room; whatever string
+-- The report is determined. Whatever rooms and scratch a text is compiled into, number and place are one, and after Done so are the 8,834 bytes of the room; whatever string
 -- room two such rooms are compared into, the answer and the string are one. A side that is refused shows number and place alone, and then nothing is shown of the comparison.
 --   compiling-one: two sides of one text have one line, and after Done rooms of the same bytes
 --   comparing-one: two comparisons of rooms with the same bytes have the same lines
@@ -78,16 +78,16 @@ compiling-one {text} {room} {other} {a} {b} (compiling {before} {bytes} {bytes�
 
 module _ (left right left′ right′ : List ℕ) (s : Sound left) (t : Sound right) (e : SameBytes left left′) (f : SameBytes right right′) where
   m : Closed (machine left)
-  m = sound-closed left s
+  m = sound-closed left (s .table)
 
   n : Closed (machine right)
-  n = sound-closed right t
+  n = sound-closed right (t .table)
 
   a : SameMoves (machine left) (machine left′)
-  a = moved-agree left left′ e s
+  a = moved-agree left left′ (λ i h. e i (omega arith)) (s .table)
 
   d : SameMoves (machine right) (machine right′)
-  d = moved-agree right right′ f t
+  d = moved-agree right right′ (λ i h. f i (omega arith)) (t .table)
 
   rounds-moved : {r k : ℕ} → Rounds (aside (machine left) (machine right)) r → Rounds (aside (machine left′) (machine right′)) k → r ≡ k
   rounds-moved {r} {k} x y = rounds-one (aside (machine left′) (machine right′)) r k

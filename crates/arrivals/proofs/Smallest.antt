@@ -9,7 +9,7 @@ use native.Mathlib.Omega.{arith}
 use lib.ListN.{getD}
 use Rattle.scope.specs.Limits.{byteValues}
 use Rattle.scope.specs.Machines.Machine.{Machine, Same, Equal, Reached}
-use Rattle.scope.specs.Machines.Room.{statesOf, nextOf, machine, Sound}
+use Rattle.scope.specs.Machines.Room.{statesOf, nextOf, machine, SoundTable}
 use Rattle.scope.specs.Machines.Canonical.{entry}
 use Rattle.scope.proofs.Machines.Run.{run-append, bytes-append, sound-closed}
 use Rattle.buffers.proofs.Numbered.{numbered-arrival}
@@ -21,7 +21,7 @@ use Rattle.smallest_plan.proofs.TableRows.{flat}
 use Rattle.arrivals.specs.Swept.{placed, PlacesSwept, Numbers}
 use Rattle.arrivals.proofs.Swept.{swept-few}
 
-module _ {a part kind least column order number into : List ℕ} {kinds n : ℕ} (s : Sound a) (f : PartsOf (machine a) part) (k : Kinded a kind least column kinds)
+module _ {a part kind least column order number into : List ℕ} {kinds n : ℕ} (s : SoundTable a) (f : PartsOf (machine a) part) (k : Kinded a kind least column kinds)
     (w : PlacesSwept a part column order number kinds n (n * kinds)) (e : Numbers part number into (statesOf a) n) where
   abbrev N : Machine
   N = smaller a order into n

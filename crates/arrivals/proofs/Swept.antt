@@ -14,8 +14,8 @@ use native.Mathlib.Decide.{ℕ-discrete}
 use borrow.Author.Count.{below-more}
 use lib.ListN.{length, getD, set, replicate, length-set, length-replicate, getD-replicate}
 use lib.Seq.{getD-set-same, getD-set-other}
-use Rattle.scope.specs.Limits.{classLimit, stateLimit, cellsAt, roomBytes}
-use Rattle.scope.specs.Machines.Room.{statesOf, classesOf, cellOf, machine, Below, Sound}
+use Rattle.scope.specs.Limits.{classLimit, stateLimit, cellsAt, waysAt, roomBytes}
+use Rattle.scope.specs.Machines.Room.{statesOf, classesOf, cellOf, machine, Below, SoundTable}
 use Rattle.buffers.proofs.Numbered.{numbered-none, numbered-old, numbered-new, numbered-few, numbered-fewer}
 use Rattle.refinement.specs.Refined.{PartsOf}
 use Rattle.room.proofs.HeadAndParts.{cell-known}
@@ -24,7 +24,7 @@ use Rattle.arrivals.specs.Swept.{leads, placed, Sweepable, Back, Forth, 
 
 -- ---- how many numbers there are
 
-module _ {a part column order number : List ℕ} {kinds count e : ℕ} (s : Sound a) (w : PlacesSwept a part column order number kinds count e) where
+module _ {a part column order number : List ℕ} {kinds count e : ℕ} (s : SoundTable a) (w : PlacesSwept a part column order number kinds count e) where
   -- no more numbers than states
   pub swept-few : count ≤ statesOf a
   swept-few = numbered-few (w .numbered) (statesOf a) (λ t. t) (λ v h. w .back v h .inside) (λ v u g h z. z)
@@ -38,12 +38,12 @@ module _ {a part column order number : List ℕ} {kinds count e : ℕ} (s : Soun
   swept-fewer t h z = numbered-fewer (w .numbered) (statesOf a) (λ t. t) (λ v l. w .back v l .inside) (λ v u g l y. y) t h (other t z)
 
 -- numbers are below stateLimit, and a part without one has that
-pub numbers-fit : {a part column order number : List ℕ} {kinds count e : ℕ} → Sound a → PlacesSwept a part column order number kinds count e → Below number 0 (statesOf a) (stateLimit + 1)
+pub numbers-fit : {a part column order number : List ℕ} {kinds count e : ℕ} → SoundTable a → PlacesSwept a part column order number kinds count e → Below number 0 (statesOf a) (stateLimit + 1)
 numbers-fit s w t h g = ⊎-elim (λ x. omega arith) (λ x. omega (arith, x .below, swept-few s w, s .few-states)) (w .forth t h)
 
 -- ---- one place more
 
-module _ {a part column order number : List ℕ} {kinds count q i : ℕ} (s : Sound a) (f : PartsOf (machine a) part) (w : PlacesSwept a part column order number kinds count (q * kinds + i))
+module _ {a part column order number : List ℕ} {kinds count q i : ℕ} (s : SoundTable a) (f : PartsOf (machine a) part) (w : PlacesSwept a part column order number kinds count (q * kinds + i))
     (h : q < count) (m : i < kinds) (k : getD column i 0 < classesOf a) where
   -- the place is that of the row q and the kind i
   is-place : (l : List ℕ) → placed a part column l kinds (q * kinds + i) ≡ leads a part l q (getD column i 0)
@@ -152,7 +152,7 @@ module _ {a part column order number : List ℕ} {kinds count q i : ℕ} (s : So
           record { place = b .place; row = b .row; here = as-read (b .place) (omega arith) ∙ b .here ∙ sym (kept v l) }
 
 -- nothing is read, and the part of the state 0 has the number 0
-pub swept-none : (a part column order : List ℕ) (kinds : ℕ) → Sound a → PartsOf (machine a) part → length order ≡ stateLimit
+pub swept-none : (a part column order : List ℕ) (kinds : ℕ) → SoundTable a → PartsOf (machine a) part → length order ≡ stateLimit
     → PlacesSwept a part column (set order 0 (getD part 0 0)) (set (replicate stateLimit stateLimit) (getD part 0 0) 0) kinds 1 (0 * kinds)
 swept-none a part column order kinds s f e = record {
   order-size = length-set order 0 p ∙ e;
@@ -197,7 +197,7 @@ row-first {kinds = kinds} q w = let z : q * kinds + 0 ≡ q * kinds = omega arit
 -- what is read at the kind i: a column, a cell, a part and its number
 pub record RowPlace (a part column number : List ℕ) (row i : ℕ) : Type 0 where
   pub column-fits : getD column i 0 < classLimit
-  pub place-fits : cellsAt + (row + getD column i 0) < roomBytes
+  pub place-fits : cellsAt + (row + getD column i 0) < waysAt
   pub long : roomBytes ≤ length a
   pub cell-fits : getD a (cellsAt + (row + getD column i 0)) 0 < stateLimit
   pub part-fits : getD part (getD a (cellsAt + (row + getD column i 0)) 0) 0 < stateLimit
@@ -221,7 +221,7 @@ module _ {a part column order number : List ℕ} {kinds count q i row : ℕ} (d 
     lead-below : getD part (getD a (cellsAt + (row + getD column i 0)) 0) 0 < statesOf a
     lead-below = rw (← is-lead) (lead-in (d .sound) (d .parts) (r .swept) (r .in-rows) h column-in)
 
-    cell : (cellsAt + (row + getD column i 0) < roomBytes) × (getD a (cellsAt + (row + getD column i 0)) 0 < statesOf a)
+    cell : (cellsAt + (row + getD column i 0) < waysAt) × (getD a (cellsAt + (row + getD column i 0)) 0 < statesOf a)
     cell = rw (r .is-row) (cell-known (d .sound) (getD order q 0) (getD column i 0) (r .swept .back q (r .in-rows) .inside) column-in)
 
     pub row-place : RowPlace a part column number row i

@@ -13,12 +13,12 @@ use mathlib.Core.Logic.{_⊎_}
 use mathlib.Core.List.{List}
 use lib.ListN.{length, getD}
 use Rattle.scope.specs.Limits.{byteValues, stateLimit}
-use Rattle.scope.specs.Machines.Room.{statesOf, classesOf, cellOf, machine, Below, Sound}
+use Rattle.scope.specs.Machines.Room.{statesOf, classesOf, cellOf, machine, Below, SoundTable}
 use Rattle.buffers.specs.Numbered.{Numbered}
 use Rattle.refinement.specs.Refined.{PartsOf}
 
 pub record Sweepable (a part column : List ℕ) (kinds : ℕ) : Type 0 where
-  pub sound : Sound a
+  pub sound : SoundTable a
   pub parts : PartsOf (machine a) part
   pub few : kinds ≤ byteValues
   pub columns : Below column 0 kinds (classesOf a)

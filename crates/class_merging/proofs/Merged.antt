@@ -11,7 +11,7 @@ use native.Mathlib.Omega.{arith}
 use lib.ListN.{length, getD, set, replicate, length-set}
 use lib.Seq.{getD-set-same, getD-set-other}
 use Rattle.scope.specs.Limits.{byteValues, classesAt}
-use Rattle.scope.specs.Machines.Room.{classesOf, classOf, Below, Sound}
+use Rattle.scope.specs.Machines.Room.{classesOf, classOf, Below, SoundTable}
 use Rattle.scope.specs.Operations.Buffers.{Written}
 use Rattle.buffers.specs.Numbered.{Found, Numbered}
 use Rattle.buffers.proofs.Numbered.{numbered-none, numbered-old, numbered-new, numbered-arrival, numbered-one, numbered-few}
@@ -72,7 +72,7 @@ module _ {a order into column sort leader : List ℕ} {n k e i : ℕ} (b : getD 
 -- ---- all kinds, and so all bytes
 
 -- where each column has the class of its own number, the bytes keep theirs
-pub mapped-same : {a class : List ℕ} {k : ℕ} (sort : List ℕ) → Sound a → k ≡ classesOf a → SameOrder sort k → Written byteValues (classOf a) (replicate byteValues 0) class
+pub mapped-same : {a class : List ℕ} {k : ℕ} (sort : List ℕ) → SoundTable a → k ≡ classesOf a → SameOrder sort k → Written byteValues (classOf a) (replicate byteValues 0) class
     → ColumnMap a sort class
 mapped-same {a} sort s e o w = record {
   size = w .size;
@@ -80,7 +80,7 @@ mapped-same {a} sort s e o w = record {
   outside = w .outside;
 }
 
-module _ {a kind least column order into sort leader class : List ℕ} {kinds n k : ℕ} (s : Sound a) (t : Kinded a kind least column kinds)
+module _ {a kind least column order into sort leader class : List ℕ} {kinds n k : ℕ} (s : SoundTable a) (t : Kinded a kind least column kinds)
     (m : Merged a order into column sort leader n k kinds) (e : ColumnMap a sort class) where
   -- a byte has the class of its kind
   by-byte : Numbered (SameColumn a order into n) (classOf a) (λ x. getD class x 0) (λ c. getD leader c 0) 0 k byteValues

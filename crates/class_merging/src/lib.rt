@@ -5,7 +5,7 @@ ghost use mathlib.Core.Path.{_≡_};
 ghost use Prim.Native.Nat.{_≤_, _<_};
 ghost use lib.ListN.{length, getD, replicate};
 ghost use Rattle.scope.specs.Limits.{byteValues};
-ghost use Rattle.scope.specs.Machines.Room.{classesOf, classOf, Below, Sound};
+ghost use Rattle.scope.specs.Machines.Room.{classesOf, classOf, Below, SoundTable};
 ghost use Rattle.scope.specs.Operations.Buffers.{Written};
 ghost use Rattle.buffers.specs.Stored.{Decides};
 ghost use Rattle.buffers.specs.Numbered.{Found};
@@ -97,7 +97,7 @@ pub fn merge(
 
 // The class of each byte in the room.
 fn of_room(from: &[u8]) -> [u8; Machine::BYTES]
-    requires { ⌜ Sound (now from) ⌝ }
+    requires { ⌜ SoundTable (now from) ⌝ }
     ensures { λ r. ⌜ Written byteValues (classOf (now (from .entry))) (replicate byteValues 0) r ⌝ }
 {
     let mut class = [0u8; Machine::BYTES];
@@ -107,7 +107,7 @@ fn of_room(from: &[u8]) -> [u8; Machine::BYTES]
 
 // The class of each byte: that of its column, by the table.
 fn of_table(from: &[u8], sort: &[u8; Machine::BYTES]) -> [u8; Machine::BYTES]
-    requires { ⌜ Sound (now from) ⌝ }
+    requires { ⌜ SoundTable (now from) ⌝ }
     ensures { λ r. ⌜ ColumnMap (now (from .entry)) (now (sort .entry)) r ⌝ }
 {
     let mut class = [0u8; Machine::BYTES];
@@ -121,7 +121,7 @@ fn of_table(from: &[u8], sort: &[u8; Machine::BYTES]) -> [u8; Machine::BYTES]
 
 // The class of each byte: that of its column. Mostly each column has the class of its own number, and then the bytes keep theirs.
 pub fn of_bytes(from: &[u8], sort: &[u8; Machine::BYTES]) -> [u8; Machine::BYTES]
-    requires { ⌜ Sound (now from) ⌝ }
+    requires { ⌜ SoundTable (now from) ⌝ }
     ensures { λ r. ⌜ ColumnMap (now (from .entry)) (now (sort .entry)) r ⌝ }
 {
     if smallest_plan::is_same_order(sort, room::head(from).classes) {

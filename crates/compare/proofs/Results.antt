@@ -28,35 +28,35 @@ use Rattle.compare.proofs.Twins.{twins-agree, rounds-twice}
 -- the rooms hold one machine
 pub answer-twins : {a b word : List ℕ} {rounds : ℕ} → Sound a → Sound b → Twins a b → Rounds (machine a) rounds → AnswersCompare a b word word SAME 0 rounds
 answer-twins {a} {b} {rounds = rounds} s t e d bytes bytes′ words words′ lent clear =
-    let c = sound-closed a s in
-    let m : SameMoves (machine a) (machine b) = twins-agree a b s e in
-    same lent s t (agree-same (machine a) (machine b) c m 0 (s .some-state)) (rounds-twice (machine a) (machine b) c m rounds d) refl clear
+    let c = sound-closed a (s .table) in
+    let m : SameMoves (machine a) (machine b) = twins-agree a b (s .table) e in
+    same lent s t (agree-same (machine a) (machine b) c m 0 (s .table .some-state)) (rounds-twice (machine a) (machine b) c m rounds d) refl clear
 
 module _ {a b part parent born : List ℕ} {rounds : ℕ} (s : Sound a) (t : Sound b) (d : Refined (both a b) part parent born rounds) where
   first : 0 < statesOf a + statesOf b
-  first = omega (arith, s .some-state)
+  first = omega (arith, s .table .some-state)
 
   second : statesOf a < statesOf a + statesOf b
-  second = omega (arith, t .some-state)
+  second = omega (arith, t .table .some-state)
 
   -- the starts lie in one part
   pub answer-same : {word : List ℕ} → OnePart part 0 (statesOf a) → AnswersCompare a b word word SAME 0 rounds
   answer-same e bytes bytes′ words words′ lent clear = same lent s t
-      (equal-by (machine a) (machine b) (sound-closed a s) (sound-closed b t) rounds (d .last)
+      (equal-by (machine a) (machine b) (sound-closed a (s .table)) (sound-closed b (t .table)) rounds (d .last)
       (refined-together (both a b) part parent born rounds d 0 (statesOf a) first second .0 e))
       (d .last) refl clear
 
   -- they do not: their distance can be found
   pub answer-apart : (OnePart part 0 (statesOf a) → ⊥) → Apart part parent born 0 (statesOf a) rounds
-  answer-apart n = record { machine = both a b; refined = d; few = omega (arith, s .few-states, t .few-states); left = first; right = second; two = n }
+  answer-apart n = record { machine = both a b; refined = d; few = omega (arith, s .table .few-states, t .table .few-states); left = first; right = second; two = n }
 
   -- then the string can be spelled
   pub answer-spells : {n : ℕ} → Between part parent born 0 (statesOf a) rounds n n → Spells a b part parent born n
-  answer-spells e = record { left = s; right = t; rounds = rounds; refined = d; within = e .within; parted = e .parted (both a b) d first second }
+  answer-spells e = record { left = s .table; right = t .table; rounds = rounds; refined = d; within = e .within; parted = e .parted (both a b) d first second }
 
   -- and fits
   pub answer-fits : {n : ℕ} → Between part parent born 0 (statesOf a) rounds n n → n ≤ wordBytes
-  answer-fits e = omega (arith, e .within, both-few a b part parent born rounds s t d, s .few-states, t .few-states)
+  answer-fits e = omega (arith, e .within, both-few a b part parent born rounds (s .table) (t .table) d, s .table .few-states, t .table .few-states)
 
   -- it is written
   pub answer-separated : {word word′ : List ℕ} {n : ℕ} → WordHas a b word word′ n → AnswersCompare a b word word′ SEPARATED n rounds
@@ -67,11 +67,11 @@ pub compares-within : {left right word word′ bytes bytes′ words words′ : L
     → (n ≤ r) × (r ≤ statesOf left + statesOf right - 2)
 compares-within (no-room h k t) = omega arith
 compares-within (no-form l f k t) = omega arith
-compares-within {left} {right} {r = r} (same l s t e z k c) = omega (arith, rounds-two (machine left) (machine right) (sound-closed left s) (sound-closed right t) r z)
+compares-within {left} {right} {r = r} (same l s t e z k c) = omega (arith, rounds-two (machine left) (machine right) (sound-closed left (s .table)) (sound-closed right (t .table)) r z)
 compares-within {left} {right} {r = r} (separated {w = w} l s t e n z k c) = omega (
   arith,
-  rounds-two (machine left) (machine right) (sound-closed left s) (sound-closed right t) r z,
-  word-within (machine left) (machine right) (sound-closed left s) (sound-closed right t) r w z e,
+  rounds-two (machine left) (machine right) (sound-closed left (s .table)) (sound-closed right (t .table)) r z,
+  word-within (machine left) (machine right) (sound-closed left (s .table)) (sound-closed right (t .table)) r w z e,
 )
 
 -- it fits into the string room
@@ -79,4 +79,4 @@ pub compares-fits : {left right word word′ bytes bytes′ words words′ : Lis
 compares-fits (no-room h k t) = omega arith
 compares-fits (no-form l f k t) = omega arith
 compares-fits (same l s t e z k c) = omega arith
-compares-fits (separated l s t e n z k c) = omega (arith, compares-within (separated l s t e n z k c), s .few-states, t .few-states)
+compares-fits (separated l s t e n z k c) = omega (arith, compares-within (separated l s t e n z k c), s .table .few-states, t .table .few-states)

@@ -10,7 +10,7 @@ use native.Mathlib.Omega.{arith}
 use lib.Dec.{eqb}
 use Rattle.scope.specs.Limits.{classesAt, marksAt, cellsAt}
 use Rattle.scope.specs.Machines.Machine.{Machine, Same, Closed}
-use Rattle.scope.specs.Machines.Room.{statesOf, classesOf, classOf, nextOf, machine, Sound}
+use Rattle.scope.specs.Machines.Room.{statesOf, classesOf, classOf, nextOf, machine, SoundTable}
 use Rattle.scope.specs.Machines.Rounds.{aside, Rounds, Enough}
 use Rattle.scope.proofs.Counting.Tests.{split}
 use Rattle.scope.proofs.Machines.Room.{cell-used}
@@ -21,7 +21,7 @@ use Rattle.room.proofs.HeadAndParts.{head-same}
 use Rattle.compare.specs.Twins.{Twins}
 
 -- the same bytes: the same header, classes, marks and used cells
-pub twins-agree : (a b : List ℕ) → Sound a → Twins a b → SameMoves (machine a) (machine b)
+pub twins-agree : (a b : List ℕ) → SoundTable a → Twins a b → SameMoves (machine a) (machine b)
 unfolding nextOf
 twins-agree a b s e = record {
   states = head .0;

@@ -12,7 +12,7 @@ ghost use Rattle.answers.specs.Numbers.{comparedNumber, comparedLength, compare
 ghost use Rattle.scope.specs.Operations.Buffers.{TailKept};
 ghost use Rattle.scope.specs.Operations.Compare.{CompareLent, Compares};
 ghost use Rattle.scope.specs.Limits.{wordBytes};
-ghost use Rattle.scope.specs.Machines.Room.{machine, Sound};
+ghost use Rattle.scope.specs.Machines.Room.{machine, SoundTable, Sound};
 ghost use Rattle.scope.specs.Machines.Rounds.{Rounds};
 ghost use Rattle.buffers.specs.Stored.{Decides};
 ghost use Rattle.two_rooms.specs.Side.{bothLimit};
@@ -37,7 +37,7 @@ fn is_lent(left: &[u8], right: &[u8], word: &[u8], bytes: &[u8], words: &[u64]) 
 
 // Whether both rooms hold one machine byte for byte, as far as the used cells go.
 fn are_twins(left: &[u8], right: &[u8]) -> bool
-    requires { ⌜ Sound (now left) × Sound (now right) ⌝ }
+    requires { ⌜ SoundTable (now left) × SoundTable (now right) ⌝ }
     ensures { λ r. ⌜ Decides r (Twins (now (left .entry)) (now (right .entry))) ⌝ }
 {
     let machine = room::head(left);
@@ -47,7 +47,7 @@ fn are_twins(left: &[u8], right: &[u8]) -> bool
 
 // The rounds of one room's machine alone.
 fn rounds_alone(room: &[u8], words: &mut [u64]) -> usize
-    requires { ⌜ Sound (now room) × (bothLimit ≤ length (now words)) ⌝ }
+    requires { ⌜ SoundTable (now room) × (bothLimit ≤ length (now words)) ⌝ }
     ensures { λ r. ⌜ Rounds (machine (now (room .entry))) r × TailKept bothLimit (now (words .entry)) (now (words .exit)) ⌝ }
 {
     let mut column = [0u8; Machine::BYTES];
@@ -103,7 +103,7 @@ pub fn compare(
     if !is_lent(left, right, word, bytes, words) {
         return Compared::Room;
     }
-    if !room::is_sound(left) || !room::is_sound(right) {
+    if !soundness::is_sound(left) || !soundness::is_sound(right) {
         buffers::clear(bytes, words);
         return Compared::Form;
     }

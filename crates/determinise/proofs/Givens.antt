@@ -15,7 +15,7 @@ use borrow.Rule.Slice.PartMut.{putMid, postOf, same-len-mid}
 use lib.Bits.{bitOr}
 use lib.ListN.{length, getD, take, drop, length-drop}
 use lib.Seq.{length-take-le, drop-at, drop-length, getD-drop}
-use Rattle.scope.specs.Limits.{byteValues, classLimit, positionLimit, roomBytes}
+use Rattle.scope.specs.Limits.{byteValues, classLimit, positionLimit, waysAt}
 use Rattle.scope.specs.Text.Re.{Re, size}
 use Rattle.scope.specs.Positions.Bits.{has, given, holders, final}
 use Rattle.scope.specs.Operations.Buffers.{TailKept, Scratch}
@@ -156,8 +156,8 @@ module _ {bytes words : List ℕ} (count last : ℕ) (null : Bool) (map : List �
 
     pub built : Builds bytes words count last null (putMid imageAt (length bytes - imageAt) bytes ys) words′ r
     built = record {
-      outcome = λ e g. rw (put-all imageAt roomBytes bytes ys within (x .image))
+      outcome = λ e g. rw (put-all imageAt waysAt bytes ys within (x .image))
           (case r e (few-classes e bytes words count last null g map k groups) (described e bytes words count last null g map k groups few masks finals m f) (x .made));
-      bytes-kept = put-tail imageAt roomBytes bytes ys within (x .image);
+      bytes-kept = put-tail imageAt waysAt bytes ys within (x .image);
       words-kept = x .words;
     }

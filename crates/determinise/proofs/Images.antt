@@ -11,14 +11,14 @@ use native.Mathlib.Omega.{arith}
 use lib.Bits.{bitAnd}
 use lib.Dec.{eqb}
 use lib.ListN.{getD}
-use Rattle.scope.specs.Limits.{byteValues, stateLimit, classesAt, marksAt, cellsAt, roomBytes, setWords}
+use Rattle.scope.specs.Limits.{byteValues, stateLimit, classesAt, marksAt, cellsAt, waysAt, setWords}
 use Rattle.scope.specs.Bytes.{Bytes}
 use Rattle.scope.specs.Text.Re.{Re, size}
 use Rattle.scope.specs.Positions.Bits.{move, final, accepting}
 use Rattle.scope.specs.Operations.Buffers.{TailKept}
 use Rattle.scope.specs.Machines.Machine.{Machine, walk, run, Closed}
 use Rattle.scope.specs.Positions.Reached.{FewSets}
-use Rattle.scope.specs.Machines.Room.{statesOf, classesOf, classOf, nextOf, machine, Sound}
+use Rattle.scope.specs.Machines.Room.{statesOf, classesOf, classOf, nextOf, machine, SoundTable}
 use Rattle.scope.proofs.Positions.Reached.{Covers, covers-recognises}
 use Rattle.scope.proofs.Operations.Buffers.{tail-then, tail-within}
 use Rattle.scope.proofs.Machines.Room.{flat-in}
@@ -100,7 +100,7 @@ module _ (finals : ℕ) {o w m map : List ℕ} {k s : ℕ} {o₁ w₁ o₂ w₂ 
     used : statesOf o₃ * classesOf o₃ ≡ n * k
     used = rw (v .states, v .count)
 
-    tail : TailKept roomBytes o o₃
+    tail : TailKept waysAt o o₃
     tail = record {
       size = v .size ∙ a .image .size ∙ h .size;
       outside = λ i l. from-start i (omega arith) (inr (omega (arith, filled .0))) (inr (omega (arith, mul-le-mul (filled .0) (mp .few)))) ∙ h .tail i l;
@@ -110,7 +110,7 @@ module _ (finals : ℕ) {o w m map : List ℕ} {k s : ℕ} {o₁ w₁ o₂ w₂ 
       rows : ReachedRows e k (setAt m) (reachedSet w₂) (cellAt o₂) n (n * k)
       rows = filled .2 e (sets-of e d)
 
-      sound : Sound o₃
+      sound : SoundTable o₃
       sound = record {
         long = omega (arith, tail .size, t .image);
         some-state = omega (arith, v .states, rows .numbered .some);

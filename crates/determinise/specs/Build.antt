@@ -8,13 +8,13 @@ use mathlib.Core.Path.{_≡_}
 use mathlib.Core.Bool.{Bool}
 use mathlib.Core.List.{List}
 use lib.ListN.{drop}
-use Rattle.scope.specs.Limits.{byteValues, stateLimit, roomBytes, setWords}
+use Rattle.scope.specs.Limits.{byteValues, stateLimit, waysAt, setWords}
 use Rattle.scope.specs.Text.Re.{Re, size, Words}
 use Rattle.scope.specs.Positions.Bits as bits
 use Rattle.scope.specs.Operations.Buffers.{TailKept}
 use Rattle.scope.specs.Machines.Machine.{Recognises}
 use Rattle.scope.specs.Positions.Reached.{ManyClasses, FewClasses, ManySets, FewSets}
-use Rattle.scope.specs.Machines.Room.{machine, Sound}
+use Rattle.scope.specs.Machines.Room.{machine, SoundTable}
 use Rattle.sets.specs.Value.{setAt}
 use Rattle.sets.specs.Layout.{held, imageAt, setsAt}
 use Rattle.determinise.specs.declared.Built.{Built}
@@ -30,7 +30,7 @@ pub record Given (e : Re) (bytes words : List ℕ) (count last : ℕ) (null : Bo
   pub empty : null ≡ bits.null e
 
 pub record MadeRoom (e : Re) (m : List ℕ) : Type 0 where
-  pub sound : Sound m
+  pub sound : SoundTable m
   pub words : Recognises (machine m) (Words e)
   pub few-classes : FewClasses e
   pub few-sets : FewSets e
@@ -42,5 +42,5 @@ BuildOutcome e m States = FewClasses e × ManySets e
 
 pub record Builds (bytes words : List ℕ) (count last : ℕ) (null : Bool) (bytes′ words′ : List ℕ) (r : Built) : Type 0 where
   pub outcome : (e : Re) → Given e bytes words count last null → BuildOutcome e (drop imageAt bytes′) r
-  pub bytes-kept : TailKept (imageAt + roomBytes) bytes bytes′
+  pub bytes-kept : TailKept (imageAt + waysAt) bytes bytes′
   pub words-kept : TailKept ((setsAt + stateLimit) * setWords) words words′

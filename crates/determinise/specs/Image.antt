@@ -13,13 +13,13 @@ use mathlib.Core.Logic.{_⊎_}
 use lib.Bits.{bitAnd}
 use lib.Dec.{eqb}
 use lib.ListN.{length, getD}
-use Rattle.scope.specs.Limits.{byteValues, classLimit, stateLimit, positionLimit, classesAt, marksAt, roomBytes, setWords}
+use Rattle.scope.specs.Limits.{byteValues, classLimit, stateLimit, positionLimit, classesAt, marksAt, waysAt, setWords}
 use Rattle.scope.specs.Text.Re.{Re, size, Words}
 use Rattle.scope.specs.Positions.Bits.{holders, afterPosition, final}
 use Rattle.scope.specs.Operations.Buffers.{TailKept}
 use Rattle.scope.specs.Machines.Machine.{Recognises}
 use Rattle.scope.specs.Positions.Reached.{ManySets, FewSets}
-use Rattle.scope.specs.Machines.Room.{statesOf, classesOf, classOf, markOf, machine, Sound}
+use Rattle.scope.specs.Machines.Room.{statesOf, classesOf, classOf, markOf, machine, SoundTable}
 use Rattle.sets.specs.Value.{setAt}
 use Rattle.sets.specs.Layout.{setsAt}
 use Rattle.determinise.specs.declared.Built.{Built}
@@ -31,8 +31,8 @@ markBy finals s = cond (eqb (bitAnd s finals) 0) 0 1
 pub record MapWritten (o o′ map : List ℕ) : Type 0 where
   pub size : length o′ ≡ length o
   pub classes : (b : ℕ) → b < byteValues → classOf o′ b ≡ getD map b 0
-  pub rest : (i : ℕ) → i < roomBytes → marksAt ≤ i → getD o′ i 0 ≡ 0
-  pub tail : (i : ℕ) → roomBytes ≤ i → getD o′ i 0 ≡ getD o i 0
+  pub rest : (i : ℕ) → i < waysAt → marksAt ≤ i → getD o′ i 0 ≡ 0
+  pub tail : (i : ℕ) → waysAt ≤ i → getD o′ i 0 ≡ getD o i 0
 
 pub record Stated (o o′ : List ℕ) (set : ℕ → ℕ) (n k finals : ℕ) : Type 0 where
   pub size : length o′ ≡ length o
@@ -55,11 +55,11 @@ pub record DescribedBy (e : Re) (w m map : List ℕ) (finals : ℕ) : Type 0 whe
 
 -- by cases on the answer
 abbrev pub ImageCase : List ℕ → List ℕ → List ℕ → ℕ → List ℕ → Built → Type 0
-ImageCase w m map finals o Done = (e : Re) → DescribedBy e w m map finals → Sound o × Recognises (machine o) (Words e) × FewSets e
+ImageCase w m map finals o Done = (e : Re) → DescribedBy e w m map finals → SoundTable o × Recognises (machine o) (Words e) × FewSets e
 ImageCase w m map finals o Classes = ⊥
 ImageCase w m map finals o States = (e : Re) → DescribedBy e w m map finals → ManySets e
 
 pub record ImageAnswer (o w m map : List ℕ) (finals : ℕ) (o′ w′ : List ℕ) (r : Built) : Type 0 where
-  pub image : TailKept roomBytes o o′
+  pub image : TailKept waysAt o o′
   pub words : TailKept ((setsAt + stateLimit) * setWords) w w′
   pub made : ImageCase w m map finals o′ r

@@ -22,7 +22,7 @@ fn write_map(image: &mut [u8], map: [u8; Machine::BYTES])
     requires { ⌜ roomBytes ≤ length (now image) ⌝ }
     ensures { λ _. ⌜ MapWritten (now (image .entry)) (now (image .exit)) map ⌝ }
 {
-    buffers::fill(image, 0, Machine::ROOM, 0);
+    buffers::fill(image, 0, Machine::WAYS_AT, 0);
     buffers::write_classes(image, &map);
 }
 

@@ -1,15 +1,18 @@
 -- The laws of the branches.
 --   room-part, text-part: what is matched
+--   matched-sound, matched-refused: a room is sound exactly if a match is not refused
 --   told: an answer, read from its enum; field-matched, field-refused: what the match of a field says
-use Prim.Native.Nat.{ℕ, _+_, _*_, _-_, _<_}
+use Prim.Native.Nat.{ℕ, _+_, _*_, _-_, _≤_, _<_}
 use mathlib.Core.Path.{_≡_, refl, subst}
+use mathlib.Core.Logic.{_⊎_, inl, inr}
 use mathlib.Core.List.{List}
 use native.Mathlib.Omega.{arith}
 use lib.ListN.{length, getD, take, drop}
-use Rattle.scope.specs.Answers.{ACCEPTED}
+use Rattle.scope.specs.Answers.{ROOM, FORM, ACCEPTED}
 use Rattle.answers.specs.Numbers.{matchedNumber, matchedPlace}
 use Rattle.scope.specs.Limits.{byteValues, roomBytes}
-use Rattle.scope.specs.Operations.Match.{Matches}
+use Rattle.scope.specs.Machines.Room.{Sound}
+use Rattle.scope.specs.Operations.Match.{Matches, no-room, no-form, accepted, dead, unfinished}
 use Rattle.answers.specs.declared.Matched.{Matched}
 use Rattle.scope.proofs.Operations.Match.{determined}
 use Rattle.buffers.proofs.OneMore.{part-all}
@@ -44,3 +47,19 @@ module _ (rooms form : List ℕ) (f : ℕ) where
   pub field-refused : {r q : Matched} → ((j : ℕ) → getD form j 0 < byteValues) → PartsMatch r → r ≡ q → (ACCEPTED ≡ matchedNumber q → ⊥)
       → IsAccepted (fieldRoom rooms f) (textOf form f) → ⊥
   field-refused known m e d a = d (determined (fieldRoom rooms f) (textOf form f) (text-bytes form f known) a (field-matched m e) .0)
+
+-- a match that is not refused is of a sound room
+pub matched-sound : {room text : List ℕ} {n i : ℕ} → Matches room text n i → (n < ROOM) ⊎ (FORM < n) → Sound room
+matched-sound (no-room h) o = absurd (elim o [ inl x ↦ omega arith | inr x ↦ omega arith ])
+matched-sound (no-form h k) o = absurd (elim o [ inl x ↦ omega arith | inr x ↦ omega arith ])
+matched-sound (accepted s h) o = s
+matched-sound (dead s h) o = s
+matched-sound (unfinished s h k) o = s
+
+-- one that is refused is not
+pub matched-refused : {room text : List ℕ} {n i : ℕ} → Matches room text n i → ROOM ≤ n → n ≤ FORM → Sound room → ⊥
+matched-refused (no-room h) x y s = omega (arith, s .table .long)
+matched-refused (no-form h k) x y s = k s
+matched-refused (accepted s h) x y t = omega arith
+matched-refused (dead s h) x y t = omega arith
+matched-refused (unfinished s h k) x y t = omega arith

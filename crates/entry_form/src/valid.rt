@@ -31,6 +31,20 @@ pub fn is_lent(count: usize, rooms: &[u8], form: &[u8]) -> bool
     true
 }
 
+// Whether a room is sound, as the matcher judges it: it refuses none that is.
+fn is_sound(room: &[u8]) -> bool
+    ensures { λ r. ⌜ Decides r (Sound (now (room .entry))) ⌝ }
+{
+    let matched = matching::match_text(room, b"");
+    match matched {
+        Matched::Accepted => true,
+        Matched::Dead(_) => true,
+        Matched::Unfinished => true,
+        Matched::Room => false,
+        Matched::Form => false,
+    }
+}
+
 // Whether the machines from `from` on, up to `count`, are sound.
 pub fn are_sound(rooms: &[u8], from: usize, count: usize) -> bool
     requires { ⌜ (count < byteValues) × (count * roomBytes ≤ length (now rooms)) ⌝ }
@@ -39,7 +53,7 @@ pub fn are_sound(rooms: &[u8], from: usize, count: usize) -> bool
     let mut f = from;
     while f < count {
         let at = f * Machine::ROOM;
-        if !room::is_sound(&rooms[at..]) {
+        if !is_sound(&rooms[at..]) {
             return false;
         }
         f += 1;

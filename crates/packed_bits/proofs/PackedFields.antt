@@ -10,7 +10,7 @@ use mathlib.Core.List.{List}
 use native.Mathlib.Nat.{mul-le-mul-right, suc-mul, add-assoc}
 use native.Mathlib.Numerals.{add-one}
 use native.Mathlib.Omega.{arith}
-use Rattle.scope.specs.Machines.Room.{Sound}
+use Rattle.scope.specs.Machines.Room.{SoundTable}
 use Rattle.scope.specs.Packing.PackedForm.{value, formLength}
 use Rattle.scope.proofs.Packing.PackedForm.{form-bits}
 use Rattle.scope.specs.Packing.Laid.{from, Holds, endBit}
@@ -43,6 +43,6 @@ pub room-for : (p i n w l : ℕ) → i < n → p + n * w ≤ l → p + i * w + w
 room-for p i n w l h k = omega (arith, suc-mul i w, mul-le-mul-right w h)
 
 -- filled to whole bytes
-pub form-size : (m : List ℕ) → Sound m → (endBit m + 7) / 8 ≡ formLength m
+pub form-size : (m : List ℕ) → SoundTable m → (endBit m + 7) / 8 ≡ formLength m
 unfolding formLength
 form-size m s = ap (λ (x : ℕ). (x + 7) / 8) (omega (arith, form-bits m s))

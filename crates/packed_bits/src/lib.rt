@@ -3,7 +3,7 @@ use scope::Machine;
 ghost use mathlib.Core.Path.{_≡_};
 ghost use Prim.Native.Nat.{_*_, _%_, _^_, _≤_};
 ghost use Rattle.scope.specs.Limits.{stateLimit, classLimit};
-ghost use Rattle.scope.specs.Machines.Room.{Sound};
+ghost use Rattle.scope.specs.Machines.Room.{SoundTable};
 ghost use Rattle.scope.specs.Packing.PackedForm.{formLength};
 ghost use Rattle.packed_bits.specs.PackedFields.{bitsOf};
 
@@ -48,7 +48,7 @@ pub fn form_bits(n: usize, k: usize) -> usize
 
 // How many bytes the form of a sound room has.
 pub fn form_length(room: &[u8]) -> usize
-    requires { ⌜ Sound (now room) ⌝ }
+    requires { ⌜ SoundTable (now room) ⌝ }
     ensures { λ r. ⌜ r ≡ formLength (now (room .entry)) ⌝ }
 {
     let machine = room::head(room);

@@ -4,7 +4,7 @@
 // cells for each state; where the others do, from the rooms.
 ghost use Prim.Native.Nat.{_+_, _≤_, _<_};
 ghost use lib.ListN.{length, getD};
-ghost use Rattle.scope.specs.Machines.Room.{statesOf, Sound};
+ghost use Rattle.scope.specs.Machines.Room.{statesOf, SoundTable};
 ghost use Rattle.scope.specs.Operations.Buffers.{TailKept};
 ghost use Rattle.buffers.specs.Stored.{Decides};
 ghost use Rattle.two_rooms.specs.Side.{bothLimit, both};
@@ -21,7 +21,7 @@ const CELL: u64 = 1 << (64 / ROW);
 
 // Writes the row of the state q behind those of the states before it.
 pub fn write_row(a: &[u8], b: &[u8], least: &[u8], q: usize, rows: &mut [u64])
-    requires { ⌜ Sound (now a) × Sound (now b) ⌝ }
+    requires { ⌜ SoundTable (now a) × SoundTable (now b) ⌝ }
     requires { ⌜ (q < statesOf (now a) + statesOf (now b)) × (rowWidth ≤ length (now least)) ⌝ }
     requires { ⌜ (bothLimit ≤ length (now rows)) × CellRows ((both (now a) (now b)) .next) (now least) (now rows) q ⌝ }
     ensures { λ _. ⌜ CellRows ((both (now (a .entry)) (now (b .entry))) .next) (now (least .entry)) (now (rows .exit)) (q + 1) × TailKept bothLimit (now (rows .entry)) (now (rows .exit)) ⌝ }
@@ -73,7 +73,7 @@ fn agree_rooms(
     p: usize,
     q: usize,
 ) -> bool
-    requires { ⌜ Sound (now a) × Sound (now b) ⌝ }
+    requires { ⌜ SoundTable (now a) × SoundTable (now b) ⌝ }
     requires { ⌜ (p < statesOf (now a) + statesOf (now b)) × (q < statesOf (now a) + statesOf (now b)) ⌝ }
     ensures { λ r. ⌜ Decides r (Led ((both (now (a .entry)) (now (b .entry))) .next) (now (least .entry)) (now (part .entry)) p q rowWidth (length (now (least .entry)))) ⌝ }
 {
@@ -100,7 +100,7 @@ fn agree(
     p: usize,
     q: usize,
 ) -> bool
-    requires { ⌜ Sound (now a) × Sound (now b) ⌝ }
+    requires { ⌜ SoundTable (now a) × SoundTable (now b) ⌝ }
     requires { ⌜ EachKind ((both (now a) (now b)) .next) (now least) × (rowWidth ≤ length (now least)) ⌝ }
     requires { ⌜ CellRows ((both (now a) (now b)) .next) (now least) (now rows) (q + 1) ⌝ }
     requires { ⌜ (p ≤ q) × (q < statesOf (now a) + statesOf (now b)) × OnePart (now part) p q ⌝ }
@@ -119,7 +119,7 @@ pub fn walk(
     link: &[u16; two_rooms::STATES],
     q: usize,
 ) -> usize
-    requires { ⌜ Sound (now a) × Sound (now b) ⌝ }
+    requires { ⌜ SoundTable (now a) × SoundTable (now b) ⌝ }
     requires { ⌜ EachKind ((both (now a) (now b)) .next) (now least) × (rowWidth ≤ length (now least)) ⌝ }
     requires { ⌜ CellRows ((both (now a) (now b)) .next) (now least) (now rows) (q + 1) ⌝ }
     requires { ⌜ (q < statesOf (now a) + statesOf (now b)) × LeastLike (OnePart (now part)) q (getD (now part) q 0) × (getD (now part) q 0 < q) ⌝ }

@@ -11,7 +11,7 @@ use native.Mathlib.Omega.{arith}
 use lib.Dec.{lit<}
 use lib.ListN.{length}
 use Rattle.scope.specs.Limits.{byteValues, classesAt, marksAt, cellsAt}
-use Rattle.scope.specs.Machines.Room.{statesOf, classesOf, Sound}
+use Rattle.scope.specs.Machines.Room.{statesOf, classesOf, SoundTable}
 use Rattle.scope.specs.Packing.PackedForm.{stateBits, formLength, formByte}
 use Rattle.scope.specs.Operations.Buffers.{Written}
 use Rattle.scope.proofs.Machines.Room.{cells-fit}
@@ -31,7 +31,7 @@ abbrev pub HeadOf : List ℕ → ℕ → ℕ → Type 0
 HeadOf m n k = (n ≡ statesOf m) × (k ≡ classesOf m)
 
 module _ {m old : List ℕ} (w : FormFits m old) where
-  sound : Sound m
+  sound : SoundTable m
   sound = w .sound
 
   laid : Laid (roomBit m) m

@@ -11,7 +11,7 @@ use Prim.Native.Nat.{ℕ, _+_, _*_, _/_, _^_, _≤_, _<_}
 use mathlib.Core.Path.{_≡_}
 use mathlib.Core.List.{List}
 use lib.ListN.{length}
-use Rattle.scope.specs.Machines.Room.{Sound}
+use Rattle.scope.specs.Machines.Room.{SoundTable}
 use Rattle.scope.specs.Packing.PackedForm.{value, formLength}
 use Rattle.scope.specs.Operations.Buffers.{Written}
 use Rattle.scope.specs.Packing.Laid.{from, Holds}
@@ -22,7 +22,7 @@ abbrev pub bitsByte : (ℕ → ℕ) → ℕ → ℕ
 bitsByte b i = value 8 (from b (i * 8))
 
 pub record FormFits (m out : List ℕ) : Type 0 where
-  pub sound : Sound m
+  pub sound : SoundTable m
   pub room : formLength m ≤ length out
 
 abbrev pub place : Filling → ℕ

@@ -2,7 +2,7 @@
 ghost use mathlib.Core.Path.{_≡_};
 ghost use Prim.Native.Nat.{_+_, _*_, _^_, _≤_, _<_};
 ghost use lib.ListN.{length};
-ghost use Rattle.scope.specs.Machines.Room.{Sound};
+ghost use Rattle.scope.specs.Machines.Room.{SoundTable};
 ghost use Rattle.scope.specs.Packing.PackedForm.{formLength, formByte};
 ghost use Rattle.scope.specs.Operations.Buffers.{Written};
 ghost use Rattle.scope.specs.Packing.Laid.{endBit, classesBit};
@@ -127,7 +127,7 @@ fn finish(out: &mut [u8], begun: Filling) -> usize
 
 // Writes the form of a sound room to the start of `out`, and answers how many bytes it has.
 pub fn pack_fields(room: &[u8], out: &mut [u8]) -> usize
-    requires { ⌜ Sound (now room) ⌝ }
+    requires { ⌜ SoundTable (now room) ⌝ }
     requires { ⌜ formLength (now room) ≤ length (now out) ⌝ }
     ensures { λ r. ⌜ (r ≡ formLength (now (room .entry))) × Written r (formByte (now (room .entry))) (now (out .entry)) (now (out .exit)) ⌝ }
 {

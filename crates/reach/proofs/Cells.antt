@@ -14,7 +14,7 @@ use borrow.Author.Count.{below-more}
 use lib.Bits.{bitAnd}
 use lib.ListN.{length, set}
 use lib.Seq.{getD-set-same, getD-set-other}
-use Rattle.scope.specs.Limits.{classLimit, stateLimit, cellsAt, roomBytes, setWords}
+use Rattle.scope.specs.Limits.{classLimit, stateLimit, cellsAt, waysAt, setWords}
 use Rattle.scope.specs.Text.Re.{Re, size}
 use Rattle.scope.specs.Positions.Bits.{move}
 use Rattle.scope.specs.Positions.Reached.{ReachedSet, ManySets}
@@ -40,7 +40,7 @@ flat-class : (k q c : ℕ) → c < k → (q * k + c) % k ≡ c
 flat-class k q c h = mul-add-mod-self-right q k c ∙ mod-eq-of-lt h
 
 -- a row ends within the image
-pub row-fits : (k q : ℕ) → k ≤ classLimit → q < stateLimit → cellsAt + q * k + k ≤ roomBytes
+pub row-fits : (k q : ℕ) → k ≤ classLimit → q < stateLimit → cellsAt + q * k + k ≤ waysAt
 row-fits k q h l = omega (arith, mul-le-mul l h, suc-mul q k)
 
 -- where a cell leads

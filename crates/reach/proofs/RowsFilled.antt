@@ -11,7 +11,7 @@ use mathlib.Core.Logic.{_⊎_, inl, inr}
 use native.Mathlib.Nat.{suc-mul, zero-mul, mul-le-mul}
 use native.Mathlib.Numerals.{add-one}
 use native.Mathlib.Omega.{arith}
-use Rattle.scope.specs.Limits.{stateLimit, positionLimit, cellsAt, roomBytes, setWords}
+use Rattle.scope.specs.Limits.{stateLimit, positionLimit, cellsAt, waysAt, setWords}
 use Rattle.scope.specs.Text.Re.{Re, size}
 use Rattle.scope.specs.Positions.Bits.{has, given, joined, afterPosition, move}
 use Rattle.scope.specs.Machines.Machine.{walk}
@@ -117,7 +117,7 @@ module _ {o w m : List ℕ} {k : ℕ} {o₁ w₁ : List ℕ} {n q u s : ℕ} {o�
   -- too many sets
   pub filled-many : r ≡ Many → RowsAnswer o w m k o₂ w₂ Many
   filled-many y = record {
-    image = image-kept roomBytes (row-fits k q (t .classes) (omega (arith, f .few)));
+    image = image-kept waysAt (row-fits k q (t .classes) (omega (arith, f .few)));
     words = words-kept;
     rows = λ e v. subst (RowCase o₁ w₁ m k q n u o₂ w₂) y (a .rows) e (row-given e v);
   }

@@ -17,7 +17,7 @@ use mathlib.Core.Path.{_≡_}
 use mathlib.Core.List.{List}
 use lib.Bits.{bitAnd}
 use lib.ListN.{length, getD}
-use Rattle.scope.specs.Limits.{byteValues, classLimit, stateLimit, positionLimit, cellsAt, roomBytes, setWords}
+use Rattle.scope.specs.Limits.{byteValues, classLimit, stateLimit, positionLimit, cellsAt, waysAt, roomBytes, setWords}
 use Rattle.scope.specs.Text.Re.{Re, size}
 use Rattle.scope.specs.Positions.Bits.{has, given, joined, holders, afterPosition}
 use Rattle.scope.specs.Positions.Reached.{ReachedSet, ManySets}
@@ -98,6 +98,6 @@ RowsCase o w m k o′ w′ (Few n) = (n ≤ stateLimit) × KeptOutside o o′ ce
 RowsCase o w m k o′ w′ Many = (e : Re) → SetsOf e w m k → ManySets e
 
 pub record RowsAnswer (o w m : List ℕ) (k : ℕ) (o′ w′ : List ℕ) (r : Counted) : Type 0 where
-  pub image : KeptOutside o o′ cellsAt roomBytes
+  pub image : KeptOutside o o′ cellsAt waysAt
   pub words : KeptOutside w w′ ((setsAt + 1) * setWords) ((setsAt + stateLimit) * setWords)
   pub rows : RowsCase o w m k o′ w′ r

@@ -12,7 +12,7 @@ use mathlib.Core.List.{List}
 use native.Mathlib.Omega.{arith}
 use lib.ListN.{getD}
 use Rattle.scope.specs.Machines.Machine.{Machine, Same}
-use Rattle.scope.specs.Machines.Room.{statesOf, machine, Sound}
+use Rattle.scope.specs.Machines.Room.{statesOf, machine, SoundTable}
 use Rattle.scope.specs.Machines.Rounds.{Together, Rounds}
 use Rattle.scope.proofs.Counting.Tests.{below}
 use Rattle.scope.proofs.Machines.SameMoves.{agree-rounds}
@@ -41,7 +41,7 @@ module _ (M : Machine) (part parent born : List ℕ) (k : ℕ) (d : Refined M pa
         least = λ p l s. f .least p l (together-in M k p q (λ w g m. s w g));
       }
 
-module _ (a b part parent born : List ℕ) (rounds : ℕ) (s : Sound a) (t : Sound b) where
+module _ (a b part parent born : List ℕ) (rounds : ℕ) (s : SoundTable a) (t : SoundTable b) where
   -- two rooms: there are at most s + t - 2 rounds
   pub both-few : Refined (side a b (statesOf a + statesOf b)) part parent born rounds → rounds + 2 ≤ statesOf a + statesOf b
   both-few d = rounds-two (machine a) (machine b) (sound-closed a s) (sound-closed b t) rounds (d .last)
@@ -86,7 +86,7 @@ left-rounds a b {r = r} d = agree-rounds (side a b (statesOf a)) (machine a) (d 
     (record { states = refl; next = λ q x h k. next-left a b q x h; marks = λ q h. rw (below q (statesOf a) .full h) refl }) r (d .last)
 
 -- kinds, columns and parts of one room beside itself
-pub left-alone : {a least column part parent born : List ℕ} {kinds rounds : ℕ} → Sound a → Kinds a a least kinds → Column a least column kinds
+pub left-alone : {a least column part parent born : List ℕ} {kinds rounds : ℕ} → SoundTable a → Kinds a a least kinds → Column a least column kinds
     → Refined (side a a (statesOf a)) part parent born rounds → RefinedAlone a column part kinds rounds
 left-alone {a} {least} {column} {part} {parent} {born} {kinds} {rounds} s k c d =
     record { least = least; bytes = k; columns = c; parts = left-parts a a part parent born rounds s s d; last = left-rounds a a d }

@@ -8,7 +8,7 @@ ghost use mathlib.Core.Path.{_≡_};
 ghost use Prim.Native.Nat.{_≤_};
 ghost use lib.ListN.{length, getD, replicate};
 ghost use Rattle.scope.specs.Limits.{byteValues};
-ghost use Rattle.scope.specs.Machines.Room.{Sound};
+ghost use Rattle.scope.specs.Machines.Room.{SoundTable};
 ghost use Rattle.scope.specs.Operations.Buffers.{Written, TailKept};
 ghost use Rattle.two_rooms.specs.Side.{bothLimit, side, FirstStates};
 ghost use Rattle.two_rooms.specs.Kinds.{Kinds};
@@ -107,7 +107,7 @@ pub fn refine_alone(
     part: &mut [u16; STATES],
     rows: &mut [u64],
 ) -> Alone
-    requires { ⌜ Sound (now room) ⌝ }
+    requires { ⌜ SoundTable (now room) ⌝ }
     requires { ⌜ (now column ≡ replicate byteValues 0) × (now part ≡ replicate bothLimit 0) × (bothLimit ≤ length (now rows)) ⌝ }
     ensures { λ r. ⌜ RefinedAlone (now (room .entry)) (now (column .exit)) (now (part .exit)) (r .kinds) (r .rounds) ⌝ }
     ensures { λ r. ⌜ TailKept bothLimit (now (rows .entry)) (now (rows .exit)) ⌝ }

@@ -1,13 +1,13 @@
-// A machine room: its head read and written, whether it is sound, and one step of its machine.
+// A machine room: its head read and written, whether its table is sound, one step of its machine, and the way home of a state.
 use scope::Machine;
 ghost use mathlib.Core.Path.{_≡_};
-ghost use Prim.Native.Nat.{_<_, _≤_};
+ghost use Prim.Native.Nat.{_+_, _*_, _<_, _≤_};
 ghost use lib.ListN.{length};
-ghost use Rattle.scope.specs.Limits.{classLimit, stateLimit, classesAt};
+ghost use Rattle.scope.specs.Limits.{byteValues, classLimit, stateLimit, classesAt, roomBytes};
 ghost use Rattle.scope.specs.Operations.Buffers.{Written};
-ghost use Rattle.scope.specs.Machines.Room.{statesOf, classesOf, cellOf, nextOf, Below, Sound};
+ghost use Rattle.scope.specs.Machines.Room.{statesOf, classesOf, cellOf, nextOf, Below, SoundTable};
 ghost use Rattle.buffers.specs.Stored.{Decides};
-ghost use Rattle.room.specs.Head.{headByte};
+ghost use Rattle.room.specs.Head.{headByte, wayOf};
 
 // The head of a room: how many states and classes it has.
 pub fn head(room: &[u8]) -> Machine
@@ -30,16 +30,16 @@ pub fn write_head(room: &mut [u8], machine: Machine)
 }
 
 // Whether the bytes from `from` up to `to` are below the limit.
-fn are_below(room: &[u8], from: usize, to: usize, limit: usize) -> bool
+pub fn are_below(room: &[u8], from: usize, to: usize, limit: usize) -> bool
     requires { ⌜ (to ≤ length (now room)) × (0 < limit) ⌝ }
     ensures { λ r. ⌜ Decides r (Below (now (room .entry)) from to limit) ⌝ }
 {
     (buffers::greatest(room, from, to) as usize) < limit
 }
 
-// Whether a room is sound. The tail of a longer one is not read.
-pub fn is_sound(room: &[u8]) -> bool
-    ensures { λ r. ⌜ Decides r (Sound (now (room .entry))) ⌝ }
+// Whether the table of a room is sound. The ways home are not read.
+pub fn is_table(room: &[u8]) -> bool
+    ensures { λ r. ⌜ Decides r (SoundTable (now (room .entry))) ⌝ }
 {
     if room.len() < Machine::ROOM {
         return false;
@@ -65,12 +65,12 @@ pub fn is_sound(room: &[u8]) -> bool
         && are_below(room, Machine::MARKS_AT, marks_end, 2)
         && are_below(room, marks_end, Machine::CELLS_AT, 1)
         && are_below(room, Machine::CELLS_AT, cells_end, n)
-        && buffers::are_zero(room, cells_end, Machine::ROOM)
+        && buffers::are_zero(room, cells_end, Machine::WAYS_AT)
 }
 
 // The cell for the state q and a class.
 pub fn cell(room: &[u8], q: usize, class: u8) -> usize
-    requires { ⌜ Sound (now room) ⌝ }
+    requires { ⌜ SoundTable (now room) ⌝ }
     requires { ⌜ (q < statesOf (now room)) × (class < classesOf (now room)) ⌝ }
     ensures { λ r. ⌜ (r ≡ cellOf (now (room .entry)) q class) × (r < statesOf (now (room .entry))) ⌝ }
 {
@@ -80,9 +80,25 @@ pub fn cell(room: &[u8], q: usize, class: u8) -> usize
 
 // The state to which the byte b leads from the state q.
 pub fn step(room: &[u8], q: usize, b: u8) -> usize
-    requires { ⌜ Sound (now room) ⌝ }
+    requires { ⌜ SoundTable (now room) ⌝ }
     requires { ⌜ q < statesOf (now room) ⌝ }
     ensures { λ r. ⌜ (r ≡ nextOf (now (room .entry)) q b) × (r < statesOf (now (room .entry))) ⌝ }
 {
     cell(room, q, room[Machine::CLASSES_AT + b as usize])
+}
+
+// The number of two bytes, the high one first.
+pub fn joined(high: u8, low: u8) -> u16
+    ensures { λ r. ⌜ r ≡ high * byteValues + low ⌝ }
+{
+    high as u16 * 256 + low as u16
+}
+
+// The way home that is kept for the state q.
+pub fn way(room: &[u8], q: usize) -> u16
+    requires { ⌜ (roomBytes ≤ length (now room)) × (q < stateLimit) ⌝ }
+    ensures { λ r. ⌜ r ≡ wayOf (now (room .entry)) q ⌝ }
+{
+    let at = Machine::WAYS_AT + q * 2;
+    joined(room[at], room[at + 1])
 }

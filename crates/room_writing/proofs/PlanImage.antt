@@ -10,10 +10,10 @@ use native.Mathlib.Nat.{mul-le-mul, mul-le-mul-right, mod-lt, div-lt-iff-lt-mul}
 use native.Mathlib.Omega.{arith}
 use lib.Dec.{eqb, ltb}
 use lib.ListN.{length, getD}
-use Rattle.scope.specs.Limits.{byteValues, classLimit, stateLimit, classesAt, marksAt, cellsAt, roomBytes}
+use Rattle.scope.specs.Limits.{byteValues, classLimit, stateLimit, classesAt, marksAt, cellsAt, waysAt, roomBytes}
 use Rattle.scope.specs.Machines.Machine.{Machine, Same, Equal, Closed}
-use Rattle.scope.specs.Machines.Room.{statesOf, classesOf, classOf, markOf, cellOf, nextOf, machine, Sound}
-use Rattle.scope.specs.Machines.Canonical.{entry, Canonical}
+use Rattle.scope.specs.Machines.Room.{statesOf, classesOf, classOf, markOf, cellOf, nextOf, machine, SoundTable}
+use Rattle.scope.specs.Machines.Canonical.{entry, CanonicalTable}
 use Rattle.scope.specs.Operations.Buffers.{Written, TailKept}
 use Rattle.scope.proofs.Counting.Tests.{below, not-below}
 use Rattle.scope.proofs.Machines.SameMoves.{SameMoves, agree-same, agree-reached}
@@ -103,8 +103,8 @@ module _ {a : List ℕ} {p : Plan} (d : Planned a p) where
       → Stored m1 m2 marksAt (marksAt + p .states) (λ i. markOf a (getD (p .order) (i - marksAt) 0))
       → Stored m2 m3 (marksAt + p .states) cellsAt (λ i. 0)
       → Stored m3 m4 cellsAt (cellsAt + p .states * p .classes) (tableByte a (p .order) (p .into) (p .leader) (p .classes))
-      → Stored m4 m5 (cellsAt + p .states * p .classes) roomBytes (λ i. 0)
-      → Written roomBytes (imageByte a p) m m5
+      → Stored m4 m5 (cellsAt + p .states * p .classes) waysAt (λ i. 0)
+      → Written waysAt (imageByte a p) m m5
   image-parts {m} r s t u v w =
       stored-written
       (stored-then (omega arith) (omega (arith, table-few)) (stored-then (omega arith) (omega arith) (stored-then (omega arith) (omega (arith, states-few))
@@ -112,7 +112,7 @@ module _ {a : List ℕ} {p : Plan} (d : Planned a p) where
       (stored-then (omega arith) (omega arith) (stored-none m 0 (imageByte a p)) (written-stored r) (λ i k g. sym (at-head a p i k))) s (λ i k g. sym (at-class a p i g k))) t (λ i k g. sym (at-mark a p i g k)))
       u (λ i k g. sym (at-gap a p i g k))) v (λ i k g. sym (at-cell a p i states-few g k))) w (λ i k g. sym (at-rest a p i states-few g)))
 
-  module _ (m : List ℕ) (long : roomBytes ≤ length m) (b : (i : ℕ) → i < roomBytes → getD m i 0 ≡ imageByte a p i) where
+  module _ (m : List ℕ) (long : roomBytes ≤ length m) (b : (i : ℕ) → i < waysAt → getD m i 0 ≡ imageByte a p i) where
     is-head : (statesOf m ≡ p .states) × (classesOf m ≡ p .classes)
     is-head = head-is m (p .states) (p .classes) (λ i h. b i (omega arith) ∙ at-head a p i h)
 
@@ -140,7 +140,7 @@ module _ {a : List ℕ} {p : Plan} (d : Planned a p) where
     table : statesOf m * classesOf m ≡ p .states * p .classes
     table = rw (is-states, is-classes)
 
-    pub image-sound : Sound m
+    pub image-sound : SoundTable m
     image-sound = record {
       long = long;
       some-state = omega (arith, is-states, d .smallest .closed .some);
@@ -175,11 +175,10 @@ module _ {a : List ℕ} {p : Plan} (d : Planned a p) where
     pub image-equal : Equal (machine a) (machine m)
     image-equal w g = sym (d .smallest .equal w g) ∙ agree-same N (machine m) (d .smallest .closed) image-agree 0 (d .smallest .closed .some) w g
 
-    -- the image is canonical
-    pub image-canonical : Canonical m
+    -- the image is canonical, up to the ways home
+    pub image-canonical : CanonicalTable m
     unfolding nextOf
     image-canonical = record {
-      sound = image-sound;
       reached = λ q h. agree-reached N (machine m) closed image-agree q (d .smallest .reached q (back h));
       reduced = λ q r h k f. d .smallest .reduced q r (back h) (back k) (λ w g. same q (back h) w g ∙ f w g ∙ sym (same r (back k) w g));
       arrival = rw is-states (arrival-ext (entry N) (entry (machine m)) 1 (p .states * byteValues) (λ x h. is-next (x / byteValues) (x % byteValues) (omega arith) (omega arith)) (d .smallest .arrival));
@@ -198,9 +197,9 @@ module _ {a : List ℕ} {p : Plan} (d : Planned a p) where
         same : (q : ℕ) → q < p .states → Same N q (machine m) q
         same = agree-same N (machine m) closed image-agree
 
-  -- what is written is the canonical room of the same strings
-  pub image-smallest : {m m′ : List ℕ} → roomBytes ≤ length m → Written roomBytes (imageByte a p) m m′
-      → Canonical m′ × Equal (machine a) (machine m′) × TailKept roomBytes m m′
+  -- what is written is, up to the ways home, the canonical room of the same strings
+  pub image-smallest : {m m′ : List ℕ} → roomBytes ≤ length m → Written waysAt (imageByte a p) m m′
+      → SoundTable m′ × CanonicalTable m′ × Equal (machine a) (machine m′) × TailKept waysAt m m′
   image-smallest {m} {m′} h w =
       let l : roomBytes ≤ length m′ = omega (arith, w .size) in
-      (image-canonical m′ l (w .inside), image-equal m′ l (w .inside), record { size = w .size; outside = w .outside })
+      (image-sound m′ l (w .inside), image-canonical m′ l (w .inside), image-equal m′ l (w .inside), record { size = w .size; outside = w .outside })

@@ -6,7 +6,7 @@ use mathlib.Core.List.{List}
 use native.Mathlib.Nat.{mul-le-mul, mul-le-mul-right, add-mul}
 use native.Mathlib.Omega.{arith}
 use lib.ListN.{getD}
-use Rattle.scope.specs.Limits.{classLimit, stateLimit, cellsAt, roomBytes}
+use Rattle.scope.specs.Limits.{classLimit, stateLimit, cellsAt, waysAt}
 use Rattle.scope.specs.Machines.Room.{cellOf}
 use Rattle.buffers.specs.Stored.{Stored}
 use Rattle.buffers.proofs.OneMore.{stored-none, stored-then}
@@ -23,7 +23,7 @@ cells-none a order into leader m n k = record { in-rows = omega arith; is-at = o
 
 module _ {a order into leader old new : List ℕ} {n k at q : ℕ} (w : Cells a order into leader old new n k at q) (h : q < n) where
   -- the next row ends within the room
-  pub cells-fit : n ≤ stateLimit → k ≤ classLimit → at + k ≤ roomBytes
+  pub cells-fit : n ≤ stateLimit → k ≤ classLimit → at + k ≤ waysAt
   cells-fit l m = omega (arith, w .is-at, mul-le-mul-right k h, mul-le-mul l m)
 
   pub cells-more : {new′ : List ℕ} → Stored new new′ at (at + k) (λ i. getD into (cellOf a (getD order q 0) (getD leader (i - at) 0)) 0)

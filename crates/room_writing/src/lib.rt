@@ -3,8 +3,8 @@ use scope::Machine;
 use smallest_plan::Plan;
 ghost use Prim.Native.Nat.{_+_, _-_, _*_, _≤_, _<_};
 ghost use lib.ListN.{length, getD};
-ghost use Rattle.scope.specs.Limits.{classLimit, marksAt, cellsAt, roomBytes};
-ghost use Rattle.scope.specs.Machines.Room.{statesOf, classesOf, markOf, cellOf, Below, Sound};
+ghost use Rattle.scope.specs.Limits.{classLimit, marksAt, cellsAt, waysAt};
+ghost use Rattle.scope.specs.Machines.Room.{statesOf, classesOf, markOf, cellOf, Below, SoundTable};
 ghost use Rattle.scope.specs.Operations.Buffers.{Written};
 ghost use Rattle.buffers.specs.Stored.{Stored};
 ghost use Rattle.smallest_plan.specs.Smallest.{StatesIn};
@@ -34,7 +34,7 @@ fn write_row(
     to: &mut [u8],
     at: usize,
 )
-    requires { ⌜ Sound (now from) × (state < statesOf (now from)) ⌝ }
+    requires { ⌜ SoundTable (now from) × (state < statesOf (now from)) ⌝ }
     requires { ⌜ (k ≤ classLimit) × Below (now leader) 0 k (classesOf (now from)) × (at + k ≤ length (now to)) ⌝ }
     ensures { λ _. ⌜ Stored (now (to .entry)) (now (to .exit)) at (at + k) (λ i. getD (now (into .entry)) (cellOf (now (from .entry)) state (getD (now (leader .entry)) (i - at) 0)) 0) ⌝ }
 {
@@ -58,7 +58,7 @@ fn write_cells<'a>(
     to: &mut [u8],
 )
     requires { ⌜ StatesIn (now from) (now order) n ⌝ }
-    requires { ⌜ (k ≤ classLimit) × Below (now leader) 0 k (classesOf (now from)) × (roomBytes ≤ length (now to)) ⌝ }
+    requires { ⌜ (k ≤ classLimit) × Below (now leader) 0 k (classesOf (now from)) × (waysAt ≤ length (now to)) ⌝ }
     ensures { λ _. ⌜ Stored (now (to .entry)) (now (to .exit)) cellsAt (cellsAt + n * k) (tableByte (now (from .entry)) (now (order .entry)) (now (into .entry)) (now (leader .entry)) k) ⌝ }
 {
     let mut at = Machine::CELLS_AT;
@@ -70,11 +70,11 @@ fn write_cells<'a>(
     }
 }
 
-// Writes the room of a plan.
+// Writes the room of a plan, up to the ways home.
 pub fn write(from: &[u8], plan: Plan, to: &mut [u8])
     requires { ⌜ Planned (now from) plan ⌝ }
-    requires { ⌜ roomBytes ≤ length (now to) ⌝ }
-    ensures { λ _. ⌜ Written roomBytes (imageByte (now (from .entry)) plan) (now (to .entry)) (now (to .exit)) ⌝ }
+    requires { ⌜ waysAt ≤ length (now to) ⌝ }
+    ensures { λ _. ⌜ Written waysAt (imageByte (now (from .entry)) plan) (now (to .entry)) (now (to .exit)) ⌝ }
 {
     let n = plan.states;
     let k = plan.classes;
@@ -89,5 +89,5 @@ pub fn write(from: &[u8], plan: Plan, to: &mut [u8])
     write_marks(from, &plan.order, n, to);
     buffers::fill(to, Machine::MARKS_AT + n, Machine::CELLS_AT, 0);
     write_cells(from, &plan.order, &plan.into, n, &plan.leader, k, to);
-    buffers::fill(to, Machine::CELLS_AT + n * k, Machine::ROOM, 0);
+    buffers::fill(to, Machine::CELLS_AT + n * k, Machine::WAYS_AT, 0);
 }

@@ -130,16 +130,18 @@ module _ (g : Sample) (s : Small g) (ways words : List (List ℕ)) where
       let k : classesOf (sampleRoom g) ≡ classesIn g = room-classes g in
       record {
         sound = room-sound g s;
-        reached = λ q h. reached q (a q (rw n at h));
-        reduced = λ p q h l. reduced p q (rw n at h) (rw n at l) (all-is (told p) (statesIn g) .sound (t .0 p (rw n at h)) q (rw n at l));
-        arrival = rw n (arrives-by (entry (tableOf g)) (entry (machine (sampleRoom g))) 1 (statesIn g * byteValues)
-            (λ x h. agree .next (x / byteValues) (x % byteValues) (omega arith) (omega arith)) (t .1 .0));
-        alike = λ b c h l f q m. ap (cellOf (sampleRoom g) q) f;
-        share = λ b c h l f.
-            room-class g b h
-            ∙ shared (classIn g b) (classIn g c) (s .class b h) (s .class c l) (all-is (apart (classIn g b)) (classesIn g) .sound (t .1 .1 .0 (classIn g b) (s .class b h)) (classIn g c) (s .class c l))
-            (λ q m. agree .next q b m h ∙ f q (rw (← n) at m) ∙ sym (agree .next q c m l))
-            ∙ sym (room-class g c l);
-        holds = λ c h. (let (b, l, f) = any-is (λ b. eqb (classIn g b) c) byteValues .sound (t .1 .1 .1 .0 c (rw k at h)) in (b, l, room-class g b l ∙ sym (equals (classIn g b) c .sound f)));
-        smallest = arrives-by (classIn g) (classOf (sampleRoom g)) 0 byteValues (λ b h. sym (room-class g b h)) (t .1 .1 .1 .1);
+        table = record {
+          reached = λ q h. reached q (a q (rw n at h));
+          reduced = λ p q h l. reduced p q (rw n at h) (rw n at l) (all-is (told p) (statesIn g) .sound (t .0 p (rw n at h)) q (rw n at l));
+          arrival = rw n (arrives-by (entry (tableOf g)) (entry (machine (sampleRoom g))) 1 (statesIn g * byteValues)
+              (λ x h. agree .next (x / byteValues) (x % byteValues) (omega arith) (omega arith)) (t .1 .0));
+          alike = λ b c h l f q m. ap (cellOf (sampleRoom g) q) f;
+          share = λ b c h l f.
+              room-class g b h
+              ∙ shared (classIn g b) (classIn g c) (s .class b h) (s .class c l) (all-is (apart (classIn g b)) (classesIn g) .sound (t .1 .1 .0 (classIn g b) (s .class b h)) (classIn g c) (s .class c l))
+              (λ q m. agree .next q b m h ∙ f q (rw (← n) at m) ∙ sym (agree .next q c m l))
+              ∙ sym (room-class g c l);
+          holds = λ c h. (let (b, l, f) = any-is (λ b. eqb (classIn g b) c) byteValues .sound (t .1 .1 .1 .0 c (rw k at h)) in (b, l, room-class g b l ∙ sym (equals (classIn g b) c .sound f)));
+          smallest = arrives-by (classIn g) (classOf (sampleRoom g)) 0 byteValues (λ b h. sym (room-class g b h)) (t .1 .1 .1 .1);
+        };
       }

@@ -36,7 +36,7 @@ use Rattle.modes.proofs.Places.{Verdict, legal, syntax, verdict, VerdictSays, j
 use Rattle.scope.proofs.Machines.SameMoves.{agree-aside, agree-rounds, agree-equal, agree-separation}
 use Rattle.scope.proofs.Machines.Aside.{aside-closed}
 use Rattle.scope.proofs.Machines.Separate.{equal-by, spelled-separation}
-use Rattle.sample_rows.proofs.Table.{tableOf, Small, room-length, room-states, room-classes, room-sound, room-agrees, table-closed}
+use Rattle.sample_rows.proofs.Table.{tableOf, Small, room-length, room-states, room-classes, room-table, room-sound, room-agrees, table-closed}
 use Rattle.sample_rows.proofs.Shown.{Help, isCompiled, compiled-by, compiled-small}
 use Rattle.sample_rows.proofs.Lost.{isMatched, matched-by}
 use Rattle.sample_rows.proofs.Apart.{alikeBy, isRounds, isSpelled, KindsCover, alike-by, rounds-by, spelled-by}
@@ -71,7 +71,7 @@ bytesIn g = (1553 + statesIn g + 7 * (statesIn g * classesIn g) + 7) / 8
 
 bytes-by : (g : Sample) → Small g → formLength (sampleRoom g) ≡ bytesIn g
 unfolding formLength bytesIn
-bytes-by g s = ap (λ (n : ℕ). (n + 7) / 8) (form-bits (sampleRoom g) (room-sound g s)) ∙ rw (room-states g, room-classes g) refl
+bytes-by g s = ap (λ (n : ℕ). (n + 7) / 8) (form-bits (sampleRoom g) (room-table g s)) ∙ rw (room-states g, room-classes g) refl
 
 -- ---- two machines
 

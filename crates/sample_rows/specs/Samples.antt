@@ -1,5 +1,5 @@
 -- 01, "Sample patterns and rulings": the rows marked P, the places of SYNTAX and RANGE, and the program's example; rows of 02's C-11 and C-16; what each says of the definitions.
---   Sample: a pattern with the machine that 01 gives for it
+--   Sample: a pattern with the machine that 01 gives for it, and its ways home; homeIn g q: that of the state q
 --   sampleRoom g: the room of that machine, byte by byte
 --   Compiled g: compiling the pattern gives that room
 --   positions l: the set of the positions l, as a number
@@ -11,9 +11,9 @@ use mathlib.Core.Path.{_≡_}
 use mathlib.Core.Bool.{Bool, true, false, cond}
 use mathlib.Core.List.{List, [], _∷_}
 use lib.Bits.{bitOr}
-use lib.Dec.{ltb}
+use lib.Dec.{eqb, ltb}
 use lib.ListN.{length, getD}
-use Rattle.scope.specs.Limits.{classesAt, marksAt, cellsAt, roomBytes, wordBytes}
+use Rattle.scope.specs.Limits.{byteValues, classesAt, marksAt, cellsAt, waysAt, roomBytes, noWay, wordBytes}
 use Rattle.scope.specs.Bytes.{isIn, ascii, listed}
 use Rattle.scope.specs.Text.Re.{Re, size}
 use Rattle.scope.specs.Positions.Bits.{null, first, last, follow}
@@ -37,6 +37,8 @@ pub record Sample : Type 0 where
   pub rows : List (List ℕ)
   -- an accept mark for each state
   pub marks : List ℕ
+  -- the way home of each state (02, C-17)
+  pub home : List ℕ
 
 abbrev pub statesIn : Sample → ℕ
 statesIn g = length (g .rows)
@@ -57,13 +59,18 @@ classIn g b = classFrom (g .classes) 1 b
 abbrev pub sampleCell : Sample → ℕ → ℕ → ℕ
 sampleCell g q c = getD (getD (g .rows) q []) c 0
 
--- "number of states n, number of classes k, the class of each of the 256 byte values, 128 accept marks, 8,192 table cells by row"
+abbrev pub homeIn : Sample → ℕ → ℕ
+homeIn g q = getD (g .home) q 0
+
+-- "number of states n, number of classes k, the class of each of the 256 byte values, 128 accept marks, 8,192 table cells by row", and the ways home, "high byte first"
 unfoldable pub byteIn : Sample → ℕ → ℕ
 unfolding classIn
 byteIn g i =
     cond (ltb i classesAt) (getD (statesIn g ∷ classesIn g ∷ []) i 0)
     (cond (ltb i marksAt) (classIn g (i - classesAt))
-    (cond (ltb i cellsAt) (getD (g .marks) (i - marksAt) 0) (sampleCell g ((i - cellsAt) / classesIn g) ((i - cellsAt) % classesIn g))))
+    (cond (ltb i cellsAt) (getD (g .marks) (i - marksAt) 0)
+    (cond (ltb i waysAt) (sampleCell g ((i - cellsAt) / classesIn g) ((i - cellsAt) % classesIn g))
+    (cond (eqb ((i - waysAt) % 2) 0) (homeIn g ((i - waysAt) / 2) / byteValues) (homeIn g ((i - waysAt) / 2) % byteValues)))))
 
 unfoldable pub sampleRoom : Sample → List ℕ
 unfolding listed byteIn
@@ -130,6 +137,7 @@ glushkov = record {
   classes = ascii "a" ∷ ascii "b" ∷ [];
   rows = (1 ∷ 2 ∷ 1 ∷ []) ∷ (1 ∷ 1 ∷ 1 ∷ []) ∷ (1 ∷ 1 ∷ 3 ∷ []) ∷ (1 ∷ 1 ∷ 3 ∷ []) ∷ [];
   marks = 0 ∷ 0 ∷ 0 ∷ 1 ∷ [];
+  home = 2 ∷ noWay ∷ 1 ∷ 0 ∷ [];
 }
 
 -- n 2, k 2; rows (1,0), (1,1); state 0 accepts
@@ -139,6 +147,7 @@ starOfA = record {
   classes = ascii "a" ∷ [];
   rows = (1 ∷ 0 ∷ []) ∷ (1 ∷ 1 ∷ []) ∷ [];
   marks = 1 ∷ 0 ∷ [];
+  home = 0 ∷ noWay ∷ [];
 }
 
 -- one or more a, however written: n 3, k 2
@@ -148,6 +157,7 @@ oneOrMore s = record {
   classes = ascii "a" ∷ [];
   rows = (1 ∷ 2 ∷ []) ∷ (1 ∷ 1 ∷ []) ∷ (1 ∷ 2 ∷ []) ∷ [];
   marks = 0 ∷ 0 ∷ 1 ∷ [];
+  home = 1 ∷ noWay ∷ 0 ∷ [];
 }
 
 -- n 5, k 3; rows (1,2,3), (1,1,1), (1,1,4), (1,4,1), (1,1,1); state 4 accepts
@@ -157,19 +167,20 @@ parity = record {
   classes = ascii "03569ACF" ∷ ascii "12478BDE" ∷ [];
   rows = (1 ∷ 2 ∷ 3 ∷ []) ∷ (1 ∷ 1 ∷ 1 ∷ []) ∷ (1 ∷ 1 ∷ 4 ∷ []) ∷ (1 ∷ 4 ∷ 1 ∷ []) ∷ (1 ∷ 1 ∷ 1 ∷ []) ∷ [];
   marks = 0 ∷ 0 ∷ 0 ∷ 0 ∷ 1 ∷ [];
+  home = 2 ∷ noWay ∷ 1 ∷ 1 ∷ 0 ∷ [];
 }
 
 -- n 1, k 1
 abbrev pub noWord : Sample
-noWord = record { text = ascii "\\0"; classes = []; rows = (0 ∷ []) ∷ []; marks = 0 ∷ [] }
+noWord = record { text = ascii "\\0"; classes = []; rows = (0 ∷ []) ∷ []; marks = 0 ∷ []; home = noWay ∷ [] }
 
 -- n 2, k 1
 abbrev pub emptyWord : Sample
-emptyWord = record { text = ascii "\\e"; classes = []; rows = (1 ∷ []) ∷ (1 ∷ []) ∷ []; marks = 1 ∷ 0 ∷ [] }
+emptyWord = record { text = ascii "\\e"; classes = []; rows = (1 ∷ []) ∷ (1 ∷ []) ∷ []; marks = 1 ∷ 0 ∷ []; home = 0 ∷ noWay ∷ [] }
 
 -- `.*`: n 2, k 2; the line end leads out of it
 abbrev pub remark : Sample
-remark = record { text = ascii ".*"; classes = ascii "\n" ∷ []; rows = (0 ∷ 1 ∷ []) ∷ (1 ∷ 1 ∷ []) ∷ []; marks = 1 ∷ 0 ∷ [] }
+remark = record { text = ascii ".*"; classes = ascii "\n" ∷ []; rows = (0 ∷ 1 ∷ []) ∷ (1 ∷ 1 ∷ []) ∷ []; marks = 1 ∷ 0 ∷ []; home = 0 ∷ noWay ∷ [] }
 
 -- one byte, and no other
 abbrev pub only : String → Sample
@@ -178,6 +189,7 @@ only b = record {
   classes = ascii b ∷ [];
   rows = (1 ∷ 2 ∷ []) ∷ (1 ∷ 1 ∷ []) ∷ (1 ∷ 1 ∷ []) ∷ [];
   marks = 0 ∷ 0 ∷ 1 ∷ [];
+  home = 1 ∷ noWay ∷ 0 ∷ [];
 }
 
 -- any number of a and b, however written
@@ -187,6 +199,7 @@ mixed s = record {
   classes = ascii "ab" ∷ [];
   rows = (1 ∷ 0 ∷ []) ∷ (1 ∷ 1 ∷ []) ∷ [];
   marks = 1 ∷ 0 ∷ [];
+  home = 0 ∷ noWay ∷ [];
 }
 
 abbrev pub sorted : Sample
@@ -195,6 +208,7 @@ sorted = record {
   classes = ascii "a" ∷ ascii "b" ∷ [];
   rows = (1 ∷ 0 ∷ 2 ∷ []) ∷ (1 ∷ 1 ∷ 1 ∷ []) ∷ (1 ∷ 1 ∷ 2 ∷ []) ∷ [];
   marks = 1 ∷ 0 ∷ 1 ∷ [];
+  home = 0 ∷ noWay ∷ 0 ∷ [];
 }
 
 unfoldable pub rows : List Row

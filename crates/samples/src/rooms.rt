@@ -20,18 +20,23 @@ fn compiled(pattern: &[u8]) -> [u8; Machine::ROOM] {
     room
 }
 
-// `{empty}`: the machine of no word at all. But for its head all is 0.
+// `{empty}`: the machine of no word at all. But for its head, and the way home that its state has not, all is 0.
 fn empty() -> [u8; Machine::ROOM] {
     let mut room = [0u8; Machine::ROOM];
     room::write_head(&mut room, Machine::empty());
+    room[Machine::WAYS_AT] = 255;
+    room[Machine::WAYS_AT + 1] = 255;
     room
 }
 
 // `{padded}`: the machine of `(ab*|a)b` with a class that no byte has, whose cells lead from every state to acceptance, and a state that nothing reaches. It is
-// compiled with the byte c as that class, which is then taken out of it.
+// compiled with the byte c as that class, which is then taken out of it: the start is two bytes from acceptance, and the state 1 has no way.
 fn padded() -> [u8; Machine::ROOM] {
     let mut room = compiled(b"[\\x00-\\xFF]*c|(ab*|a)b");
     room[Machine::CLASSES_AT + 99] = 0;
+    room[Machine::WAYS_AT + 1] = 2;
+    room[Machine::WAYS_AT + 2] = 255;
+    room[Machine::WAYS_AT + 3] = 255;
     room
 }
 

@@ -100,7 +100,7 @@ fn accepting(room: &[u8])
 
 // Prints the table of a room, if it is sound.
 pub fn table(room: &[u8]) {
-    if room::is_sound(room) {
+    if soundness::is_sound(room) {
         rows(room);
         text(b" ");
         accepting(room);

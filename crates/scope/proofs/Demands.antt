@@ -56,8 +56,8 @@ module _ {left right word word′ bytes bytes′ words words′ : List ℕ} wher
   comparison lent s t (Compares.no-form l (inl f) k c) = absurd (f s)
   comparison lent s t (Compares.no-form l (inr f) k c) = absurd (f t)
   comparison {r = r} lent s t (same l s′ t′ e z k c) =
-      let m = sound-closed left s in
-      let o = sound-closed right t in
+      let m = sound-closed left (s .table) in
+      let o = sound-closed right (t .table) in
       record {
         same = (λ x. same-exact (machine left) (machine right) .0 e, λ f. refl);
         otherwise = λ f. absurd (f refl);
@@ -67,11 +67,11 @@ module _ {left right word word′ bytes bytes′ words words′ : List ℕ} wher
         bound = rounds-two (machine left) (machine right) m o r z;
       }
   comparison {n = n} {r} lent s t (separated {w = w} l s′ t′ e d z k c) =
-      let m = sound-closed left s in
-      let o = sound-closed right t in
+      let m = sound-closed left (s .table) in
+      let o = sound-closed right (t .table) in
       let a : n ≤ r = omega (arith, word-within (machine left) (machine right) m o r w z e) in
       let b = rounds-two (machine left) (machine right) m o r z in
-      let x : take n word′ ≡ w = written-take w word word′ n d (omega (arith, b, s .few-states, t .few-states, lent .word-long)) k in
+      let x : take n word′ ≡ w = written-take w word word′ n d (omega (arith, b, s .table .few-states, t .table .few-states, lent .word-long)) k in
       record {
         same = (λ x. absurd (omega arith), λ f. absurd (f w (e .separates)));
         otherwise = λ f. (refl, rw x d, rw x e);

@@ -4,6 +4,7 @@ pub mod Run
 pub mod Least
 pub mod Unique
 pub mod SameMoves
+pub mod Ways
 pub mod Moved
 pub mod Rounds
 pub mod Aside

@@ -116,9 +116,9 @@ minimise-first (minimised l s c e k t) = (rows-else (λ r. omega arith) l (λ f.
 pub match-first : {room text : List ℕ} {n i : ℕ} → Matches room text n i → TwoRows n (roomBytes ≤ length room) (Sound room → ⊥) × (Refusal n → i ≡ 0)
 match-first (Matches.no-room h) = (rows-room (λ l. omega arith), λ r. refl)
 match-first (Matches.no-form l f) = (rows-form l f, λ r. refl)
-match-first (accepted s a) = (rows-else (λ r. omega arith) (s .long) (λ f. f s), λ r. refl)
-match-first (dead s a) = (rows-else (λ r. omega arith) (s .long) (λ f. f s), λ r. absurd (omega arith))
-match-first (unfinished s a b) = (rows-else (λ r. omega arith) (s .long) (λ f. f s), λ r. refl)
+match-first (accepted s a) = (rows-else (λ r. omega arith) (s .table .long) (λ f. f s), λ r. refl)
+match-first (dead s a) = (rows-else (λ r. omega arith) (s .table .long) (λ f. f s), λ r. absurd (omega arith))
+match-first (unfinished s a b) = (rows-else (λ r. omega arith) (s .table .long) (λ f. f s), λ r. refl)
 
 -- comparing
 pub compare-first : {left right word word′ bytes bytes′ words words′ : List ℕ} {n long rounds : ℕ} → Compares left right word word′ bytes bytes′ words words′ n long rounds
@@ -170,7 +170,7 @@ taken-exact {form} {room} {room′} {bytes} {bytes′} {words} {words′} {i} l 
       bytes′ = bytes′;
       words = words;
       words′ = words′;
-      packs = Packs.packed (record { room-long = n .sound .long; scratch = l .scratch }) n (f .size) (omega arith) (form-written room′ form f) t;
+      packs = Packs.packed (record { room-long = n .sound .table .long; scratch = l .scratch }) n (f .size) (omega arith) (form-written room′ form f) t;
       written = take-length form;
     }
 

@@ -1,7 +1,8 @@
--- The numbers of 01, "Numbers that bound the work". The code has them as constants of `Machine`; its function `limits` ties the two.
+-- The numbers of 01, "Numbers that bound the work", and of 02. The code has them as constants of `Machine`; its function `limits` ties the two.
 --   byteValues: how many values a byte has
 --   patternLimit, nestLimit, positionLimit, classLimit, stateLimit: the most that is taken
---   classesAt, marksAt, cellsAt, roomBytes: where the parts of a machine room begin, and its size
+--   classesAt, marksAt, cellsAt, waysAt, roomBytes: where the parts of a machine room begin, and its size
+--   noWay: the way home of a state that has none
 --   scratchBytes, scratchWords, wordBytes: the sizes of the scratch and of the room for a separating string
 --   setWords: how many words of 64 bits hold a set of positions, 0 included
 use Prim.Native.Nat.{ℕ, _+_}
@@ -42,9 +43,17 @@ marksAt = classesAt + byteValues
 abbrev pub cellsAt : ℕ
 cellsAt = marksAt + stateLimit
 
--- "A machine room is 8,578 bytes"
+-- then the ways home, "at its end", two bytes for each state
+abbrev pub waysAt : ℕ
+waysAt = 8578
+
+-- "a room is now 8,834 bytes"
 abbrev pub roomBytes : ℕ
-roomBytes = 8578
+roomBytes = 8834
+
+-- "65,535 if there is no way"
+abbrev pub noWay : ℕ
+noWay = 65535
 
 -- "Scratch: 32,768 bytes and 256 eight-byte words"
 abbrev pub scratchBytes : ℕ

@@ -1,5 +1,6 @@
--- Machines, their rooms, the canonical one; strings that tell two apart, and rounds.
+-- Machines, ways home, their rooms, the canonical one; strings that tell two apart, and rounds.
 pub mod Machine
+pub mod Ways
 pub mod Room
 pub mod Canonical
 pub mod Separate

@@ -12,7 +12,7 @@ use borrow.Author.Count.{below-more}
 use lib.Dec.{eqb}
 use lib.Seq.{getD-set-other}
 use lib.ListN.{length, getD, set, replicate, length-set}
-use Rattle.scope.specs.Machines.Room.{statesOf, Sound}
+use Rattle.scope.specs.Machines.Room.{statesOf, SoundTable}
 use Rattle.scope.specs.Machines.Rounds.{Together}
 use Rattle.scope.proofs.Counting.Tests.{split, bit-same}
 use Rattle.scope.proofs.Counting.Lists.{zeros}
@@ -79,7 +79,7 @@ module _ (a b part : List ℕ) (other q : ℕ) (d : MarksNamed a b part other q)
         stored q (record { low = omega arith; like = refl; least = λ p k e. n (sym e ∙ d .none z p k) }) l (omega arith) n (d .none z)
 
     -- one has another, and is not the first
-    pub begun-other : Sound a → Sound b → q < statesOf a + statesOf b → (other ≡ 0 → ⊥) → MarksNamed a b (set part q other) other (q + 1)
+    pub begun-other : SoundTable a → SoundTable b → q < statesOf a + statesOf b → (other ≡ 0 → ⊥) → MarksNamed a b (set part q other) other (q + 1)
     begun-other s t k z =
         let l : 0 < other = omega arith in
         let m = d .differs l in

@@ -14,7 +14,7 @@ use lib.ListN.{length, getD, set, length-set}
 use lib.Seq.{getD-set-same, getD-set-other}
 use Rattle.scope.specs.Limits.{classesAt}
 use Rattle.scope.specs.Positions.Bits.{has}
-use Rattle.scope.specs.Machines.Room.{statesOf, classesOf, classOf, cellOf, nextOf, Sound}
+use Rattle.scope.specs.Machines.Room.{statesOf, classesOf, classOf, cellOf, nextOf, SoundTable}
 use Rattle.two_rooms.specs.Side.{bothLimit, both, FirstStates}
 use Rattle.two_rooms.proofs.Rooms.{next-left, next-right}
 use Rattle.signs.specs.Signs.{signs, Sources, Among, CellsNoted}
@@ -69,7 +69,7 @@ module _ {room : List ℕ} {base q s : ℕ} where
 
 module _ {a b : List ℕ} {n : ℕ} (k : FirstStates a b n) {q s : ℕ} {from from′ : List ℕ} (e : s ≡ 2 ^ (q % signs)) (f : Sources ((both a b) .next) q from) where
   -- one state more, which a byte leads as its class does in the room
-  sources-more : {room : List ℕ} {base p : ℕ} → Sound room → CellsNoted room base p s from from′ (classesOf room) → ((x : ℕ) → (both a b) .next q x ≡ base + nextOf room p x)
+  sources-more : {room : List ℕ} {base p : ℕ} → SoundTable room → CellsNoted room base p s from from′ (classesOf room) → ((x : ℕ) → (both a b) .next q x ≡ base + nextOf room p x)
       → Sources ((both a b) .next) (q + 1) from′
   unfolding nextOf
   sources-more {room} u d is r x h l = below-more (λ (r : ℕ). has (getD from′ ((both a b) .next r x) 0) (r % signs) ≡ true) q

@@ -5,7 +5,7 @@
 ghost use mathlib.Core.Path.{_≡_};
 ghost use Prim.Native.Nat.{_+_, _%_, _^_, _≤_, _<_};
 ghost use lib.ListN.{length, replicate};
-ghost use Rattle.scope.specs.Machines.Room.{statesOf, classesOf, Sound};
+ghost use Rattle.scope.specs.Machines.Room.{statesOf, classesOf, SoundTable};
 ghost use Rattle.scope.specs.Machines.Rounds.{Together};
 ghost use Rattle.scope.specs.Operations.Buffers.{TailKept};
 ghost use Rattle.two_rooms.specs.Side.{bothLimit, both, side, FirstStates};
@@ -49,7 +49,7 @@ pub fn seek(s: u64, q: usize, n: usize) -> usize
 // Notes the sign s with each state to which a class leads the state q of the room, whose states stand from `base` on. Where the class before leads there too,
 // it is noted already.
 fn note(room: &[u8], base: usize, q: usize, s: u64, from: &mut [u64; two_rooms::STATES])
-    requires { ⌜ Sound (now room) × (q < statesOf (now room)) × (base + statesOf (now room) ≤ bothLimit) ⌝ }
+    requires { ⌜ SoundTable (now room) × (q < statesOf (now room)) × (base + statesOf (now room) ≤ bothLimit) ⌝ }
     requires { ⌜ length (now from) ≡ bothLimit ⌝ }
     ensures { λ _. ⌜ length (now (from .exit)) ≡ bothLimit ⌝ }
     ensures { λ _. ⌜ CellsNoted (now (room .entry)) base q s (now (from .entry)) (now (from .exit)) (classesOf (now (room .entry))) ⌝ }

@@ -6,7 +6,7 @@ use mathlib.Core.List.{List}
 use native.Mathlib.Omega.{arith}
 use lib.ListN.{getD}
 use Rattle.scope.specs.Limits.{classesAt}
-use Rattle.scope.specs.Machines.Room.{machine, Sound}
+use Rattle.scope.specs.Machines.Room.{machine, SoundTable}
 use Rattle.two_rooms.specs.Kinds.{KindsOf, Column}
 use Rattle.refinement.specs.Refined.{PartsOf}
 use Rattle.smallest_plan.specs.Smallest.{StatesIn}
@@ -18,7 +18,7 @@ use Rattle.class_merging.specs.Merged.{Merged, ColumnMap}
 use Rattle.class_merging.proofs.Merged.{classed}
 use Rattle.smallest.proofs.ByKind.{kinded}
 
-module _ {a kind least column part : List ℕ} {kinds : ℕ} (s : Sound a) (k : KindsOf a a kind least kinds) (c : Column a least column kinds) (p : PartsOf (machine a) part) where
+module _ {a kind least column part : List ℕ} {kinds : ℕ} (s : SoundTable a) (k : KindsOf a a kind least kinds) (c : Column a least column kinds) (p : PartsOf (machine a) part) where
   -- the parts and the columns are ready to be numbered
   pub ready : Sweepable a part column kinds
   ready = record {

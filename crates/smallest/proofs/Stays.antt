@@ -10,16 +10,16 @@ use native.Mathlib.Nat.{mod-lt, div-add-mod', div-lt-iff-lt-mul}
 use native.Mathlib.Omega.{arith}
 use lib.ListN.{length, getD, take, drop}
 use lib.Seq.{getD-drop}
-use Rattle.scope.specs.Limits.{classesAt, cellsAt, roomBytes}
-use Rattle.scope.specs.Machines.Room.{statesOf, classesOf, machine, Sound, SameBytes}
-use Rattle.scope.specs.Machines.Canonical.{Canonical}
+use Rattle.scope.specs.Limits.{classesAt, cellsAt, waysAt, roomBytes}
+use Rattle.scope.specs.Machines.Room.{statesOf, classesOf, machine, SoundTable, SameTables}
+use Rattle.scope.specs.Machines.Canonical.{CanonicalTable}
 use Rattle.scope.specs.Bytes.{listed}
 use Rattle.scope.proofs.Counting.Lists.{listed-length, listed-at}
 use Rattle.scope.proofs.Machines.Room.{bytes-from-parts}
 use Rattle.scope.proofs.Machines.Run.{sound-closed}
 use Rattle.scope.proofs.Machines.SameMoves.{agree-same}
-use Rattle.scope.proofs.Machines.Moved.{moved-agree, canonical-moved}
-use Rattle.scope.proofs.Machines.Unique.{unique}
+use Rattle.scope.proofs.Machines.Moved.{moved-agree, canonical-table-moved}
+use Rattle.scope.proofs.Machines.Unique.{unique-table}
 use Rattle.buffers.specs.Stored.{Decides, BeginAlike}
 use Rattle.buffers.proofs.OneMore.{part-all}
 use Rattle.room.proofs.HeadAndParts.{head-same}
@@ -46,14 +46,14 @@ module _ {a : List ℕ} {p : Plan} (d : Planned a p) where
   unfolding m
   long = omega (arith, listed-length (imageByte a p) roomBytes)
 
-  byte : (i : ℕ) → i < roomBytes → getD m i 0 ≡ imageByte a p i
+  byte : (i : ℕ) → i < waysAt → getD m i 0 ≡ imageByte a p i
   unfolding m
-  byte = listed-at (imageByte a p) roomBytes
+  byte i h = listed-at (imageByte a p) roomBytes i (omega arith)
 
-  pub stays-canonical : Stays a p → Canonical a
-  stays-canonical t = canonical-moved m a (d .sound .long) bytes (image-canonical d m long byte)
+  pub stays-canonical : Stays a p → CanonicalTable a
+  stays-canonical t = canonical-table-moved m a bytes sound (image-canonical d m long byte)
     where
-      sound : Sound m
+      sound : SoundTable m
       sound = image-sound d m long byte
 
       leader : (c : ℕ) → c < p .classes → getD (p .leader) c 0 ≡ c
@@ -74,7 +74,7 @@ module _ {a : List ℕ} {p : Plan} (d : Planned a p) where
           byte (cellsAt + i) (omega (arith, table-few d)) ∙ at-cell a p (cellsAt + i) (states-few d) (omega arith) (omega arith)
           ∙ rw (e, t .order (i / k) q, leader (i % k) c, ← t .classes, z) (into (getD a (cellsAt + i) 0) v)
 
-      bytes : SameBytes m a
+      bytes : SameTables m a
       bytes = bytes-from-parts m a (record {
         states = is-states d m long byte ∙ t .states;
         classes = is-classes d m long byte ∙ t .classes;
@@ -83,7 +83,7 @@ module _ {a : List ℕ} {p : Plan} (d : Planned a p) where
         cell = cell;
       }) (sound .marks-off) (d .sound .marks-off) (sound .cells-off) (d .sound .cells-off)
 
-  pub canonical-stays : Canonical a → Stays a p
+  pub canonical-stays : CanonicalTable a → Stays a p
   canonical-stays c = record {
     states = sym (is-states d m long byte) ∙ sym (head .0);
     classes = sym (is-classes d m long byte) ∙ sym (head .1);
@@ -91,8 +91,8 @@ module _ {a : List ℕ} {p : Plan} (d : Planned a p) where
     class = λ x h. sym (is-class d m long byte x h) ∙ sym (same (classesAt + x) (omega arith));
   }
     where
-      same : SameBytes a m
-      same = unique a m c (image-canonical d m long byte) (image-equal d m long byte)
+      same : SameTables a m
+      same = unique-table a m (d .sound) (image-sound d m long byte) c (image-canonical d m long byte) (image-equal d m long byte)
 
       head : (statesOf a ≡ statesOf m) × (classesOf a ≡ classesOf m)
       head = head-same a m (λ i h. same i (omega arith))
@@ -105,5 +105,5 @@ module _ {a : List ℕ} {p : Plan} (d : Planned a p) where
           ∙ sym (agree-same (machine a) (machine m) (sound-closed a (d .sound)) (moved-agree a m same (d .sound)) q k w g))
 
   -- so whether it stays decides whether it is canonical
-  pub stays-decides : {r : Bool} → Decides r (Stays a p) → Decides r (Canonical a)
+  pub stays-decides : {r : Bool} → Decides r (Stays a p) → Decides r (CanonicalTable a)
   stays-decides t = record { yes = λ e. stays-canonical (t .yes e); no = λ e c. t .no e (canonical-stays c) }

@@ -1,4 +1,4 @@
-// From any sound room the canonical room of the same strings. The states are refined into parts that no string tells apart, and those that are reached numbered on
+// From any room with a sound table the canonical room of the same strings. The states are refined into parts that no string tells apart, and those that are reached numbered on
 // first arrival; kinds of bytes that every state sends alike share a class; and what came out is written as a room. A room is canonical if nothing of it would change.
 mod stay;
 
@@ -10,17 +10,17 @@ ghost use lib.ListN.{length};
 ghost use Rattle.answers.specs.Numbers.{minimisedNumber};
 ghost use Rattle.scope.specs.Limits.{roomBytes};
 ghost use Rattle.scope.specs.Machines.Machine.{Equal};
-ghost use Rattle.scope.specs.Machines.Room.{machine, Sound};
-ghost use Rattle.scope.specs.Machines.Canonical.{Canonical};
+ghost use Rattle.scope.specs.Machines.Room.{machine, SoundTable};
+ghost use Rattle.scope.specs.Machines.Canonical.{CanonicalTable, Canonical};
 ghost use Rattle.scope.specs.Operations.Buffers.{TailKept};
 ghost use Rattle.scope.specs.Operations.Minimise.{Minimises};
 ghost use Rattle.buffers.specs.Stored.{Decides};
 ghost use Rattle.two_rooms.specs.Side.{bothLimit};
 ghost use Rattle.smallest_plan.specs.Planned.{Planned};
 
-// The smallest machine of a sound room. It writes over the words.
+// The smallest machine of a room with a sound table. It writes over the words.
 fn make_plan(from: &[u8], words: &mut [u64]) -> Plan
-    requires { ⌜ Sound (now from) × (bothLimit ≤ length (now words)) ⌝ }
+    requires { ⌜ SoundTable (now from) × (bothLimit ≤ length (now words)) ⌝ }
     ensures { λ r. ⌜ Planned (now (from .entry)) r × TailKept bothLimit (now (words .entry)) (now (words .exit)) ⌝ }
 {
     let mut column = [0u8; Machine::BYTES];
@@ -52,20 +52,21 @@ fn make_plan(from: &[u8], words: &mut [u64]) -> Plan
     }
 }
 
-// Writes the canonical room of the strings of a sound room.
+// Writes the canonical room of the strings of a room with a sound table.
 pub fn smallest(from: &[u8], to: &mut [u8], words: &mut [u64])
-    requires { ⌜ Sound (now from) ⌝ }
+    requires { ⌜ SoundTable (now from) ⌝ }
     requires { ⌜ (roomBytes ≤ length (now to)) × (bothLimit ≤ length (now words)) ⌝ }
     ensures { λ _. ⌜ Canonical (now (to .exit)) × Equal (machine (now (from .entry))) (machine (now (to .exit))) × TailKept roomBytes (now (to .entry)) (now (to .exit)) ⌝ }
     ensures { λ _. ⌜ TailKept bothLimit (now (words .entry)) (now (words .exit)) ⌝ }
 {
     room_writing::write(from, make_plan(from, words), to);
+    way_writing::write_ways(to);
 }
 
-// Whether a sound room is canonical.
+// Whether a sound table is canonical.
 pub fn is_canonical(room: &[u8], words: &mut [u64]) -> bool
-    requires { ⌜ Sound (now room) × (bothLimit ≤ length (now words)) ⌝ }
-    ensures { λ r. ⌜ Decides r (Canonical (now (room .entry))) × TailKept bothLimit (now (words .entry)) (now (words .exit)) ⌝ }
+    requires { ⌜ SoundTable (now room) × (bothLimit ≤ length (now words)) ⌝ }
+    ensures { λ r. ⌜ Decides r (CanonicalTable (now (room .entry))) × TailKept bothLimit (now (words .entry)) (now (words .exit)) ⌝ }
 {
     stay::stays(room, make_plan(room, words))
 }
@@ -80,7 +81,7 @@ pub fn minimise(from: &[u8], to: &mut [u8], bytes: &mut [u8], words: &mut [u64])
     if !buffers::is_lent(to, bytes, words) {
         return Minimised::Room;
     }
-    if !room::is_sound(from) {
+    if !soundness::is_sound(from) {
         buffers::clear(bytes, words);
         return Minimised::Form;
     }

@@ -10,11 +10,11 @@ use lib.Dec.{eqb}
 use lib.ListN.{getD}
 use Rattle.scope.specs.Limits.{byteValues, stateLimit}
 use Rattle.scope.specs.Machines.Machine.{Machine, Same, Equal, Closed, Reached}
-use Rattle.scope.specs.Machines.Room.{statesOf, markOf, nextOf, machine, Below, Sound}
+use Rattle.scope.specs.Machines.Room.{statesOf, markOf, nextOf, machine, Below, SoundTable}
 use Rattle.scope.specs.Machines.Canonical.{Arrival, entry}
 
 pub record StatesIn (a order : List ℕ) (n : ℕ) : Type 0 where
-  pub sound : Sound a
+  pub sound : SoundTable a
   pub few : n ≤ stateLimit
   pub inside : Below order 0 n (statesOf a)
 

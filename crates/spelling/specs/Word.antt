@@ -9,7 +9,7 @@ use mathlib.Core.Path.{_≡_}
 use mathlib.Core.List.{List}
 use lib.ListN.{length, getD}
 use Rattle.scope.specs.Machines.Machine.{Machine}
-use Rattle.scope.specs.Machines.Room.{statesOf, machine, Sound}
+use Rattle.scope.specs.Machines.Room.{statesOf, machine, SoundTable}
 use Rattle.scope.specs.Machines.Rounds.{Together}
 use Rattle.scope.specs.Machines.Separate.{Separation}
 use Rattle.scope.specs.Operations.Buffers.{Written}
@@ -34,8 +34,8 @@ pub record Between (part parent born : List ℕ) (p q rounds low high : ℕ) : T
   pub parted : (M : Machine) → Refined M part parent born rounds → p < M .states → q < M .states → Parted M low high p q
 
 pub record Spells (a b part parent born : List ℕ) (d : ℕ) : Type 0 where
-  pub left : Sound a
-  pub right : Sound b
+  pub left : SoundTable a
+  pub right : SoundTable b
   pub rounds : ℕ
   pub refined : Refined (both a b) part parent born rounds
   pub within : d ≤ rounds

@@ -80,7 +80,7 @@ module _ {room text : List ℕ} {kept : ℕ} (within : kept ≤ length text) whe
 
   -- a room that is too short, or not sound
   pub stands-short : Matches room text ROOM 0 → Stands room text kept Standing.Lost
-  stands-short (no-room h) = stand.lost (λ s k. omega (arith, s .long))
+  stands-short (no-room h) = stand.lost (λ s k. omega (arith, s .table .long))
 
   pub stands-unsound : Matches room text FORM 0 → Stands room text kept Standing.Lost
   stands-unsound (no-form h n) = stand.lost (λ s k. n s)

@@ -14,7 +14,7 @@ use lib.Dec.{lit<}
 use lib.Pow.{pow-add, high, low as low-bits}
 use lib.ListN.{length, getD, List·getD-eq-default}
 use Rattle.scope.specs.Limits.{byteValues}
-use Rattle.scope.specs.Machines.Room.{Sound}
+use Rattle.scope.specs.Machines.Room.{SoundTable}
 use Rattle.scope.specs.Packing.PackedForm.{value, fields, formBits, formLength, formByte, FormOf}
 use Rattle.scope.specs.Packing.Laid.{from, Holds, Laid}
 use Rattle.scope.proofs.Counting.Tests.{split}
@@ -67,7 +67,7 @@ field-of b i o w r x y p k hx hy e ep =
     sym (ap (λ (n : ℕ). n % 2 ^ w) top ∙ low-bits vo w little)
 
 -- its bytes are bytes
-pub form-small : (m f : List ℕ) → Sound m → FormOf m f → (i : ℕ) → getD f i 0 < byteValues
+pub form-small : (m f : List ℕ) → SoundTable m → FormOf m f → (i : ℕ) → getD f i 0 < byteValues
 unfolding formByte
 form-small m f s u i = elim (split i (formLength m)) [
   | inl h ↦ rw (u .bytes i h) (value-lt 8 (from (roomBit m) (i * 8)) (λ j l. form-laid m s .bit (i * 8 + j)))
@@ -75,7 +75,7 @@ form-small m f s u i = elim (split i (formLength m)) [
 ]
 
 -- the bits of the bytes are those of the form
-same-bit : (m f : List ℕ) → Sound m → FormOf m f → (j : ℕ) → roomBit m j ≡ formBit f j
+same-bit : (m f : List ℕ) → SoundTable m → FormOf m f → (j : ℕ) → roomBit m j ≡ formBit f j
 unfolding formByte formLength
 same-bit m f s u j = elim (split (j / 8) (formLength m)) [
   | inl h ↦
@@ -88,5 +88,5 @@ same-bit m f s u j = elim (split (j / 8) (formLength m)) [
 ]
 
 -- so they are laid out for the room
-pub sound-laid : (m f : List ℕ) → Sound m → FormOf m f → Laid (formBit f) m
+pub sound-laid : (m f : List ℕ) → SoundTable m → FormOf m f → Laid (formBit f) m
 sound-laid m f s u = laid-ext (roomBit m) (formBit f) m (same-bit m f s u) (form-laid m s)

@@ -12,9 +12,9 @@ use mathlib.Core.List.{List}
 use native.Mathlib.Omega.{arith}
 use lib.ListN.{length, getD, take, drop}
 use lib.Seq.{getD-take, getD-drop, ext-getD}
-use Rattle.scope.specs.Limits.{byteValues, classesAt, marksAt, cellsAt, roomBytes}
-use Rattle.scope.specs.Machines.Room.{statesOf, classesOf, Sound, SameBytes}
-use Rattle.scope.specs.Machines.Canonical.{Canonical}
+use Rattle.scope.specs.Limits.{byteValues, classesAt, marksAt, cellsAt, waysAt, roomBytes}
+use Rattle.scope.specs.Machines.Room.{statesOf, classesOf, SoundTable, SameTables}
+use Rattle.scope.specs.Machines.Canonical.{CanonicalTable}
 use Rattle.scope.specs.Packing.PackedForm.{value, formBits, formLength, formByte, FormOf}
 use Rattle.scope.proofs.Operations.Buffers.{tail-one}
 use Rattle.scope.proofs.Machines.Room.{cells-fit}
@@ -22,7 +22,7 @@ use Rattle.scope.proofs.Packing.PackedForm.{part-length}
 use Rattle.scope.specs.Packing.Laid.{from}
 use Rattle.scope.proofs.Packing.ReadBack.{value-ext}
 use Rattle.scope.proofs.Packing.Laid.{form-laid, framed, laid-one, bits-one}
-use Rattle.scope.proofs.Machines.Moved.{sound-moved, canonical-moved}
+use Rattle.scope.proofs.Machines.Moved.{table-moved, canonical-table-moved}
 use Rattle.room.proofs.HeadAndParts.{head-same}
 use Rattle.packed_bits.specs.PackedFields.{roomBit}
 use Rattle.take_packed.specs.FormImage.{formBit, Image, Imageless, Formless, UnpacksFields}
@@ -30,7 +30,7 @@ use Rattle.packed_bits.proofs.PackedFields.{form-size}
 use Rattle.take_packed.proofs.Bytes.{form-byte, form-small, sound-laid}
 
 -- a sound image has the form
-pub image-form : {f m : List ℕ} → Image f m → Sound m → FormOf m f
+pub image-form : {f m : List ℕ} → Image f m → SoundTable m → FormOf m f
 unfolding formByte
 image-form {f} {m} i s = record {
   size = i .size ∙ form-size m s;
@@ -40,11 +40,11 @@ image-form {f} {m} i s = record {
 }
 
 -- two images of a form are one, byte by byte
-pub image-one : {f m n : List ℕ} → Image f m → Image f n → SameBytes m n
+pub image-one : {f m n : List ℕ} → Image f m → Image f n → SameTables m n
 image-one {f} {m} {n} i j = laid-one (formBit f) m n (i .framed) (j .framed) (i .laid) (j .laid)
 
 -- a sound room is an image of its form
-pub image-of : {f n : List ℕ} → Sound n → FormOf n f → Image f n
+pub image-of : {f n : List ℕ} → SoundTable n → FormOf n f → Image f n
 image-of {f} {n} s u = record {
   long = s .long;
   bytes = form-small n f s u;
@@ -59,12 +59,12 @@ formless g n s u = g n (image-of s u)
 
 module _ {f m n : List ℕ} (i : Image f m) where
   -- if a sound room has the form, the image is sound
-  pub image-sound : Sound n → FormOf n f → Sound m
-  image-sound s u = sound-moved n m (i .long) (image-one (image-of s u) i) s
+  pub image-sound : SoundTable n → FormOf n f → SoundTable m
+  image-sound s u = table-moved n m (i .long) (image-one (image-of s u) i) s
 
   -- if a canonical room has the form, the image is canonical
-  pub image-canonical : Canonical n → FormOf n f → Canonical m
-  image-canonical c u = canonical-moved n m (i .long) (image-one (image-of (c .sound) u) i) c
+  pub image-canonical : SoundTable n → CanonicalTable n → FormOf n f → CanonicalTable m
+  image-canonical s c u = canonical-table-moved n m (image-one (image-of s u) i) s c
 
 -- two results of one call: the answers, and the rooms
 pub determined : {r s : Bool} {f old u v : List ℕ} → UnpacksFields r f old u → UnpacksFields s f old v → (r ≡ s) × (u ≡ v)
@@ -76,7 +76,7 @@ determined {r = false} {s = false} a b = (refl, a .kept refl ∙ sym (b .kept re
 -- ---- a room copied
 
 -- a part of two rooms that agree
-same-part : (m n : List ℕ) (start k : ℕ) → roomBytes ≤ length m → roomBytes ≤ length n → start + k ≤ roomBytes → SameBytes m n → take k (drop start m) ≡ take k (drop start n)
+same-part : (m n : List ℕ) (start k : ℕ) → roomBytes ≤ length m → roomBytes ≤ length n → start + k ≤ waysAt → SameTables m n → take k (drop start m) ≡ take k (drop start n)
 same-part m n start k a b h e =
     let x : length (take k (drop start m)) ≡ k = part-length m start k (omega arith) in
     let y : length (take k (drop start n)) ≡ k = part-length n start k (omega arith) in
@@ -85,7 +85,7 @@ same-part m n start k a b h e =
     getD-take k (drop start m) i 0 l′ ∙ getD-drop start m i 0 ∙ e (start + i) (omega arith) ∙ sym (getD-take k (drop start n) i 0 l′ ∙ getD-drop start n i 0))
 
 -- the bits of two rooms that agree
-same-bits : (m n : List ℕ) → Sound m → roomBytes ≤ length n → SameBytes m n → formBits m ≡ formBits n
+same-bits : (m n : List ℕ) → SoundTable m → roomBytes ≤ length n → SameTables m n → formBits m ≡ formBits n
 unfolding formBits
 same-bits m n s l e =
     let (states, classes) = head-same m n (λ i h. e i (omega arith)) in
@@ -98,7 +98,7 @@ same-bits m n s l e =
     )
 
 -- a room that is long enough and agrees with a sound one has its form
-pub form-moved : (m n f : List ℕ) → Sound m → roomBytes ≤ length n → SameBytes m n → FormOf m f → FormOf n f
+pub form-moved : (m n f : List ℕ) → SoundTable m → roomBytes ≤ length n → SameTables m n → FormOf m f → FormOf n f
 unfolding formByte formLength
 form-moved m n f s l e u =
     let z : formBits m ≡ formBits n = same-bits m n s l e in

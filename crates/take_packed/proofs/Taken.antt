@@ -15,7 +15,7 @@ use borrow.Author.Count.{below-more}
 use lib.Dec.{eqb}
 use lib.ListN.{length, getD, set, length-set}
 use lib.Seq.{getD-set-same, getD-set-other}
-use Rattle.scope.specs.Limits.{byteValues, classesAt, marksAt, cellsAt, roomBytes, stateLimit, classLimit}
+use Rattle.scope.specs.Limits.{byteValues, classesAt, marksAt, cellsAt, waysAt, roomBytes, stateLimit, classLimit}
 use Rattle.scope.specs.Machines.Room.{statesOf, classesOf}
 use Rattle.scope.specs.Packing.PackedForm.{stateBits}
 use Rattle.scope.specs.Operations.Buffers.{TailKept, Written}
@@ -93,7 +93,7 @@ took-more {b} {p} {w} {start} {i} {old} {new} x l h t = record {
 }
 
 -- zeros, and then the head
-pub blanked : {n k : ℕ} {old zero new : List ℕ} → Stored old zero 0 roomBytes (λ i. 0) → Written classesAt (headByte n k) zero new → BlankRoom n k old new
+pub blanked : {n k : ℕ} {old zero new : List ℕ} → Stored old zero 0 waysAt (λ i. 0) → Written classesAt (headByte n k) zero new → BlankRoom n k old new
 blanked {n} {k} {old} {zero} {new} s w = record {
   tail = record { size = w .size ∙ s .size; outside = λ i h. w .outside i (omega arith) ∙ s .outside i (inr h) };
   states = head-is new n k (w .inside) .0;
@@ -111,7 +111,7 @@ module _ {f : List ℕ} {n k c : ℕ} {old a x y new : List ℕ} (g : FormShaped
   fit = rw e (mul-le-mul few (g .named .few-classes))
 
   -- no part reaches past the room
-  tail : TailKept roomBytes old new
+  tail : TailKept waysAt old new
   tail = record {
     size = v .size ∙ u .size ∙ t .size ∙ z .tail .size;
     outside = λ i h. v .outside i (inr (omega (arith, fit))) ∙ u .outside i (inr (omega (arith, few))) ∙ t .outside i (inr (omega arith)) ∙ z .tail .outside i h;
@@ -128,7 +128,7 @@ module _ {f : List ℕ} {n k c : ℕ} {old a x y new : List ℕ} (g : FormShaped
   classes = kept .1 ∙ z .classes
 
   -- each part stays where it was read, and what no part holds stays 0
-  pub image-made : Image f new × TailKept roomBytes old new
+  pub image-made : Image f new × TailKept waysAt old new
   image-made = (
     record {
       long = omega (arith, tail .size);

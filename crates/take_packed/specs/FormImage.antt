@@ -15,8 +15,8 @@ use mathlib.Core.Bool.{Bool, true, false}
 use mathlib.Core.Logic.{_⊎_}
 use mathlib.Core.List.{List}
 use lib.ListN.{length, getD}
-use Rattle.scope.specs.Limits.{byteValues, classLimit, stateLimit, classesAt, roomBytes}
-use Rattle.scope.specs.Machines.Room.{statesOf, classesOf, Sound}
+use Rattle.scope.specs.Limits.{byteValues, classLimit, stateLimit, classesAt, waysAt, roomBytes}
+use Rattle.scope.specs.Machines.Room.{statesOf, classesOf, SoundTable}
 use Rattle.scope.specs.Packing.PackedForm.{stateBits, fields, FormOf}
 use Rattle.scope.specs.Operations.Buffers.{TailKept}
 use Rattle.scope.specs.Packing.Laid.{bitOf, Holds, Laid, Framed, endBit}
@@ -36,7 +36,7 @@ abbrev pub Imageless : List ℕ → Type 0
 Imageless f = (m : List ℕ) → Image f m → ⊥
 
 abbrev pub Formless : List ℕ → Type 0
-Formless f = (m : List ℕ) → Sound m → FormOf m f → ⊥
+Formless f = (m : List ℕ) → SoundTable m → FormOf m f → ⊥
 
 pub record HeadNames (n k : ℕ) (f : List ℕ) : Type 0 where
   pub some-state : 1 ≤ n
@@ -63,13 +63,13 @@ pub record FieldsTaken (b : ℕ → ℕ) (p w start n : ℕ) (old new : List ℕ
   pub outside : (i : ℕ) → (i < start) ⊎ (start + n ≤ i) → getD new i 0 ≡ getD old i 0
 
 pub record BlankRoom (n k : ℕ) (old new : List ℕ) : Type 0 where
-  pub tail : TailKept roomBytes old new
+  pub tail : TailKept waysAt old new
   pub states : statesOf new ≡ n
   pub classes : classesOf new ≡ k
-  pub zero : (i : ℕ) → i < roomBytes → classesAt ≤ i → getD new i 0 ≡ 0
+  pub zero : (i : ℕ) → i < waysAt → classesAt ≤ i → getD new i 0 ≡ 0
 
 pub record UnpacksFields (r : Bool) (f old new : List ℕ) : Type 0 where
-  pub tail : TailKept roomBytes old new
+  pub tail : TailKept waysAt old new
   pub yes : r ≡ true → Image f new
   pub no : r ≡ false → Imageless f
   pub kept : r ≡ false → new ≡ old

@@ -1,7 +1,7 @@
 // Unpacking: a field of at most eight bits lies in two bytes; past its end a form reads as 0.
 ghost use Prim.Native.Nat.{_+_, _*_, _^_, _≤_, _<_};
 ghost use lib.ListN.{length};
-ghost use Rattle.scope.specs.Limits.{stateLimit, classLimit, roomBytes};
+ghost use Rattle.scope.specs.Limits.{stateLimit, classLimit, waysAt, roomBytes};
 ghost use Rattle.scope.specs.Operations.Buffers.{TailKept};
 ghost use Rattle.scope.specs.Packing.Laid.{Holds};
 ghost use Rattle.take_packed.specs.FormImage.{formBit, HeadNames, FormShaped, ShapeJudged, FieldsTaken, BlankRoom, Image, UnpacksFields};
@@ -66,7 +66,7 @@ fn blank(room: &mut [u8], n: usize, k: usize)
     requires { ⌜ (n ≤ stateLimit) × (k ≤ classLimit) × (roomBytes ≤ length (now room)) ⌝ }
     ensures { λ _. ⌜ BlankRoom n k (now (room .entry)) (now (room .exit)) ⌝ }
 {
-    buffers::fill(room, 0, Machine::ROOM, 0);
+    buffers::fill(room, 0, Machine::WAYS_AT, 0);
     let machine = Machine {
         states: n,
         classes: k,
@@ -77,7 +77,7 @@ fn blank(room: &mut [u8], n: usize, k: usize)
 // The room whose fields a form has.
 fn take_all(form: &[u8], room: &mut [u8], n: usize, k: usize)
     requires { ⌜ FormShaped n k (now form) × (roomBytes ≤ length (now room)) ⌝ }
-    ensures { λ _. ⌜ Image (now (form .entry)) (now (room .exit)) × TailKept roomBytes (now (room .entry)) (now (room .exit)) ⌝ }
+    ensures { λ _. ⌜ Image (now (form .entry)) (now (room .exit)) × TailKept waysAt (now (room .entry)) (now (room .exit)) ⌝ }
 {
     let cells = packed_bits::used_cells(n, k);
     blank(room, n, k);

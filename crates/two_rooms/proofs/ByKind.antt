@@ -15,7 +15,7 @@ use native.Mathlib.Decide.{ℕ-discrete}
 use lib.Seq.{getD-set-same, getD-set-other, length-take-le, getD-take}
 use lib.ListN.{length, take, getD, set, replicate, length-set}
 use Rattle.scope.specs.Limits.{byteValues, classLimit, classesAt}
-use Rattle.scope.specs.Machines.Room.{classesOf, classOf, nextOf, Below, Sound}
+use Rattle.scope.specs.Machines.Room.{classesOf, classOf, nextOf, Below, SoundTable}
 use Rattle.scope.proofs.Counting.Tests.{split}
 use Rattle.scope.proofs.Counting.Lists.{zeros}
 use Rattle.buffers.specs.Numbered.{Found, Came, Numbered}
@@ -24,11 +24,11 @@ use Rattle.two_rooms.specs.Side.{both}
 use Rattle.two_rooms.specs.Kinds.{pairOf, stretch, LevelStretch, KindsOf, Kinds, EachKind, Most}
 
 -- a byte's class is below 64
-pub class-small : (m : List ℕ) (x : ℕ) → Sound m → x < byteValues → classOf m x < classLimit
+pub class-small : (m : List ℕ) (x : ℕ) → SoundTable m → x < byteValues → classOf m x < classLimit
 class-small m x s h = omega (arith, s .classes (classesAt + x) (omega arith) (omega arith), s .few-classes)
 
 -- one pair, the same two classes
-pair-one : (a b : List ℕ) (x y : ℕ) → Sound b → x < byteValues → y < byteValues → pairOf a b x ≡ pairOf a b y → (classOf a x ≡ classOf a y) × (classOf b x ≡ classOf b y)
+pair-one : (a b : List ℕ) (x y : ℕ) → SoundTable b → x < byteValues → y < byteValues → pairOf a b x ≡ pairOf a b y → (classOf a x ≡ classOf a y) × (classOf b x ≡ classOf b y)
 pair-one a b x y t hx hy e = omega (arith, class-small b x t hx, class-small b y t hy)
 
 -- ---- the kinds are numbers, and their least bytes lead them
@@ -51,7 +51,7 @@ module _ (a b kind least : List ℕ) {count e : ℕ} (n : Numbering a b kind lea
   few = numbered-few n e (λ x. x) byte (λ v w h l q. rw q refl)
 
 -- the kinds of all bytes
-kinds-of : (a b kind least : List ℕ) {count : ℕ} → Sound b → Numbering a b kind least count byteValues → KindsOf a b kind least count
+kinds-of : (a b kind least : List ℕ) {count : ℕ} → SoundTable b → Numbering a b kind least count byteValues → KindsOf a b kind least count
 kinds-of a b kind least {count} t n = record {
   few = few a b kind least n;
   below = n .below;
@@ -119,7 +119,7 @@ module _ {a b least : List ℕ} {count last x : ℕ} (g : KindsPassed a b least 
   passed-few = few a b (g .kind) least (g .numbered)
 
   -- all bytes are passed
-  pub passed-all : Sound b → x ≡ byteValues → Kinds a b least count
+  pub passed-all : SoundTable b → x ≡ byteValues → Kinds a b least count
   passed-all t e = record { long = g .least-long; kind = g .kind; are = kinds-of a b (g .kind) least t (rw e at (g .numbered)) }
 
 -- p: the classes of x
@@ -190,7 +190,7 @@ seek a b least (suc count) x = elim (seek a b least count x) [
   ]
 ]
 
-module _ (a b : List ℕ) (most : ℕ) (t : Sound b) (m : Most a b most) (least : List ℕ) (count : ℕ) (full : most ≤ count) where
+module _ (a b : List ℕ) (most : ℕ) (t : SoundTable b) (m : Most a b most) (least : List ℕ) (count : ℕ) (full : most ≤ count) where
   -- where there are as many kinds as there can be, a byte more is of one of them
   known : (last x : ℕ) → x < byteValues → KindsPassed a b least count last x → (i : ℕ) × (i < count) × (pairOf a b (getD least i 0) ≡ pairOf a b x)
   known last x h g = elim (seek a b least count x) [
@@ -221,7 +221,7 @@ pub most-bytes : (a b : List ℕ) → Most a b byteValues
 most-bytes a b = record { number = λ x. x; below = λ x h. h; alike = λ x y h l e. rw e refl }
 
 -- and for one room at most as many as classes
-pub most-classes : {a : List ℕ} → Sound a → Most a a (classesOf a)
+pub most-classes : {a : List ℕ} → SoundTable a → Most a a (classesOf a)
 most-classes {a} s = record { number = classOf a; below = λ x h. s .classes (classesAt + x) (omega arith) (omega arith); alike = λ x y h l e. rw e refl }
 
 -- ---- for whoever goes over the least bytes

@@ -9,7 +9,7 @@ use mathlib.Core.List.{List}
 use native.Mathlib.Omega.{arith}
 use lib.Dec.{eqb, ltb}
 use Rattle.scope.specs.Limits.{marksAt}
-use Rattle.scope.specs.Machines.Room.{statesOf, markOf, nextOf, machine, Sound}
+use Rattle.scope.specs.Machines.Room.{statesOf, markOf, nextOf, machine, SoundTable}
 use Rattle.scope.proofs.Counting.Tests.{which, split, below, not-below}
 use Rattle.scope.proofs.Machines.Run.{sound-closed}
 use Rattle.scope.proofs.Machines.Aside.{aside-closed}
@@ -40,18 +40,18 @@ module _ (a b : List ℕ) (q : ℕ) where
   accepts-mark = elim (which (ltb q (statesOf a))) [ inl e ↦ rw e refl | inr e ↦ rw e refl ]
 
   -- a mark is 0 or 1
-  pub mark-small : Sound a → Sound b → q < statesOf a + statesOf b → markIn a b q < 2
+  pub mark-small : SoundTable a → SoundTable b → q < statesOf a + statesOf b → markIn a b q < 2
   mark-small s t h = elim (split q (statesOf a)) [
     | inl x ↦ omega (arith, mark-left x, s .marks (marksAt + q) (omega arith) (omega arith))
     | inr x ↦ omega (arith, mark-right x, t .marks (marksAt + (q - statesOf a)) (omega arith) (omega arith))
   ]
 
 -- all states together are closed
-pub side-both : (a b : List ℕ) → Sound a → Sound b → FirstStates a b (statesOf a + statesOf b)
+pub side-both : (a b : List ℕ) → SoundTable a → SoundTable b → FirstStates a b (statesOf a + statesOf b)
 side-both a b s t = record { left = s; right = t; few = omega arith; closed = aside-closed (machine a) (machine b) (sound-closed a s) (sound-closed b t) }
 
 -- and so are those of a
-pub side-left : (a b : List ℕ) → Sound a → Sound b → FirstStates a b (statesOf a)
+pub side-left : (a b : List ℕ) → SoundTable a → SoundTable b → FirstStates a b (statesOf a)
 side-left a b s t = record {
   left = s;
   right = t;

@@ -10,7 +10,7 @@ use mathlib.Core.List.{List}
 use lib.Dec.{ltb}
 use Rattle.scope.specs.Limits.{stateLimit}
 use Rattle.scope.specs.Machines.Machine.{Machine, Closed}
-use Rattle.scope.specs.Machines.Room.{statesOf, markOf, machine, Sound}
+use Rattle.scope.specs.Machines.Room.{statesOf, markOf, machine, SoundTable}
 use Rattle.scope.specs.Machines.Rounds.{aside}
 
 abbrev pub bothLimit : ℕ
@@ -26,7 +26,7 @@ abbrev pub side : List ℕ → List ℕ → ℕ → Machine
 side a b n = record { states = n; next = (both a b) .next; accepts = (both a b) .accepts }
 
 pub record FirstStates (a b : List ℕ) (n : ℕ) : Type 0 where
-  pub left : Sound a
-  pub right : Sound b
+  pub left : SoundTable a
+  pub right : SoundTable b
   pub few : n ≤ statesOf a + statesOf b
   pub closed : Closed (side a b n)

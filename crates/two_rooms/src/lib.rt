@@ -6,7 +6,7 @@ ghost use mathlib.Core.Path.{_≡_};
 ghost use Prim.Native.Nat.{_+_, _≤_, _<_};
 ghost use lib.ListN.{getD, replicate};
 ghost use Rattle.scope.specs.Limits.{byteValues};
-ghost use Rattle.scope.specs.Machines.Room.{statesOf, Below, Sound};
+ghost use Rattle.scope.specs.Machines.Room.{statesOf, Below, SoundTable};
 ghost use Rattle.buffers.specs.Stored.{Decides};
 ghost use Rattle.buffers.specs.Numbered.{Found};
 ghost use Rattle.two_rooms.specs.Side.{both, markIn};
@@ -17,7 +17,7 @@ pub const STATES: usize = Machine::STATES + Machine::STATES;
 
 // The state after q on the byte x.
 pub fn step(a: &[u8], b: &[u8], q: usize, x: u8) -> usize
-    requires { ⌜ Sound (now a) × Sound (now b) ⌝ }
+    requires { ⌜ SoundTable (now a) × SoundTable (now b) ⌝ }
     requires { ⌜ q < statesOf (now a) + statesOf (now b) ⌝ }
     ensures { λ r. ⌜ (r ≡ (both (now (a .entry)) (now (b .entry))) .next q x) × (r < statesOf (now (a .entry)) + statesOf (now (b .entry))) ⌝ }
 {
@@ -31,7 +31,7 @@ pub fn step(a: &[u8], b: &[u8], q: usize, x: u8) -> usize
 
 // The mark of the state q.
 pub fn mark(a: &[u8], b: &[u8], q: usize) -> u8
-    requires { ⌜ Sound (now a) × Sound (now b) ⌝ }
+    requires { ⌜ SoundTable (now a) × SoundTable (now b) ⌝ }
     requires { ⌜ q < statesOf (now a) + statesOf (now b) ⌝ }
     ensures { λ r. ⌜ r ≡ markIn (now (a .entry)) (now (b .entry)) q ⌝ }
 {
@@ -51,7 +51,7 @@ pub struct ByteKinds {
 
 // The classes of the byte x in a and in b, as one number.
 fn pair(a: &[u8], b: &[u8], x: usize) -> usize
-    requires { ⌜ Sound (now a) × Sound (now b) ⌝ }
+    requires { ⌜ SoundTable (now a) × SoundTable (now b) ⌝ }
     requires { ⌜ x < byteValues ⌝ }
     ensures { λ r. ⌜ r ≡ pairOf (now (a .entry)) (now (b .entry)) x ⌝ }
 {
@@ -60,7 +60,7 @@ fn pair(a: &[u8], b: &[u8], x: usize) -> usize
 
 // The kind whose least byte has the pair of classes p, or their count if none has.
 fn find(a: &[u8], b: &[u8], least: &[u8; Machine::BYTES], count: usize, p: usize) -> usize
-    requires { ⌜ Sound (now a) × Sound (now b) ⌝ }
+    requires { ⌜ SoundTable (now a) × SoundTable (now b) ⌝ }
     requires { ⌜ (count ≤ byteValues) × Below (now least) 0 count byteValues ⌝ }
     ensures { λ r. ⌜ Found (λ i. pairOf (now (a .entry)) (now (b .entry)) (getD (now (least .entry)) i 0) ≡ p) count r ⌝ }
 {
@@ -79,7 +79,7 @@ const STRETCH: usize = 16;
 
 // Whether each byte of the stretch from x on has the class of the byte before it.
 fn is_level(room: &[u8], x: usize) -> bool
-    requires { ⌜ Sound (now room) × (0 < x) × (x + stretch ≤ byteValues) ⌝ }
+    requires { ⌜ SoundTable (now room) × (0 < x) × (x + stretch ≤ byteValues) ⌝ }
     ensures { λ r. ⌜ Decides r (LevelStretch (now (room .entry)) x (x + stretch)) ⌝ }
 {
     let mut level = true;
@@ -95,7 +95,7 @@ fn is_level(room: &[u8], x: usize) -> bool
 
 // The kinds of the bytes, of which there are at most `most`: of one kind are those with one class in a and one in b. Most stretches of bytes are level.
 pub fn kinds(a: &[u8], b: &[u8], most: usize) -> ByteKinds
-    requires { ⌜ Sound (now a) × Sound (now b) ⌝ }
+    requires { ⌜ SoundTable (now a) × SoundTable (now b) ⌝ }
     requires { ⌜ Most (now a) (now b) most ⌝ }
     ensures { λ r. ⌜ Kinds (now (a .entry)) (now (b .entry)) (r .least) (r .count) ⌝ }
 {
@@ -131,7 +131,7 @@ pub fn columns(
     count: usize,
     column: &mut [u8; Machine::BYTES],
 )
-    requires { ⌜ Sound (now room) ⌝ }
+    requires { ⌜ SoundTable (now room) ⌝ }
     requires { ⌜ (count ≤ byteValues) × Below (now least) 0 count byteValues ⌝ }
     requires { ⌜ now column ≡ replicate byteValues 0 ⌝ }
     ensures { λ _. ⌜ Column (now (room .entry)) (now (least .entry)) (now (column .exit)) count ⌝ }

@@ -9,30 +9,30 @@ use Rattle.compare.proofs.answer.Statement.{statement}
 use Rattle.compare.proofs.answer.Tie as tie
 
 are-twins-requires : tie.Need-are-twins-requires
-are-twins-requires c κs = c .before .before .before .before .pre .0
+are-twins-requires c κs = let s = c .before .before .before .before .pre .0 in (s .0 .table, s .1 .table)
 
 rounds-alone-requires : tie.Need-rounds-alone-requires
-rounds-alone-requires c κs = let d = c .before .before .before .before .before .before .before .pre in (d .0 .0, d .1 .1)
+rounds-alone-requires c κs = let d = c .before .before .before .before .before .before .before .pre in (d .0 .0 .table, d .1 .1)
 
 returns : tie.Need-returns
 returns c = let s = c .before .before .before .before .before .before .before .before .before .before .pre .0 in let r = c .before .before .rounds-alone .ensures in (answer-twins (s .0) (s .1) (c .before .before .before .before .before .are-twins .ensures .yes (c .before .before .before .before .if1 .taken)) (r .0), r .1)
 
 add-n : tie.Need-add-n
-add-n c = let s = c .before .before .before .before .before .before .before .before .before .pre .0 in omega (arith, c .before .before .head .ensures .0, c .before .head2 .ensures .0, s .0 .few-states, s .1 .few-states)
+add-n c = let s = c .before .before .before .before .before .before .before .before .before .pre .0 in omega (arith, c .before .before .head .ensures .0, c .before .head2 .ensures .0, s .0 .table .few-states, s .1 .table .few-states)
 
 kinds-requires : tie.Need-kinds-requires
-kinds-requires c κs = (c .before .before .before .before .before .before .before .before .before .pre .0, most-bytes _ _)
+kinds-requires c κs = let s = c .before .before .before .before .before .before .before .before .before .pre .0 in ((s .0 .table, s .1 .table), most-bytes _ _)
 
 refine-requires : tie.Need-refine-requires
 refine-requires c κs =
     let d = c .before .before .before .before .before .before .before .before .before .before .before .before .before .before .before .before .before .pre in let s = d .0 in
-    (rw (c .before .before .before .before .before .before .before .before .before .before .head .ensures .0, c .before .before .before .before .before .before .before .before .before .head2 .ensures .0) (side-both _ _ (s .0) (s .1)), (c .before .before .before .before .before .before .before .kinds .ensures, ((refl, refl, refl), d .1 .1)))
+    (rw (c .before .before .before .before .before .before .before .before .before .before .head .ensures .0, c .before .before .before .before .before .before .before .before .before .head2 .ensures .0) (side-both _ _ (s .0 .table) (s .1 .table)), (c .before .before .before .before .before .before .before .kinds .ensures, ((refl, refl, refl), d .1 .1)))
 
 mul-if2 : tie.Need-mul-if2
-mul-if2 c = omega (arith, c .before .before .before .before .before .before .before .before .before .before .before .before .before .before .before .before .before .before .before .before .pre .0 .0 .few-states, c .before .before .before .before .before .before .before .before .before .before .before .before .before .head .ensures .0)
+mul-if2 c = omega (arith, c .before .before .before .before .before .before .before .before .before .before .before .before .before .before .before .before .before .before .before .before .pre .0 .0 .table .few-states, c .before .before .before .before .before .before .before .before .before .before .before .before .before .head .ensures .0)
 
 array-read-if2-2 : tie.Need-array-read-if2-2
-array-read-if2-2 c = omega (arith, c .before .before .before .before .before .before .before .before .before .before .before .before .before .before .before .before .before .before .before .before .pre .0 .0 .few-states, c .before .before .before .before .before .before .before .before .before .before .before .before .before .head .ensures .0)
+array-read-if2-2 c = omega (arith, c .before .before .before .before .before .before .before .before .before .before .before .before .before .before .before .before .before .before .before .before .pre .0 .0 .table .few-states, c .before .before .before .before .before .before .before .before .before .before .before .before .before .head .ensures .0)
 
 returns-2 : tie.Need-returns-2
 returns-2 c =

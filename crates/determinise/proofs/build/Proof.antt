@@ -2,7 +2,7 @@
 use mathlib.Core.Path.{subst}
 use native.Mathlib.Omega.{arith}
 use borrow.Author.Needs.{needs}
-use Rattle.scope.specs.Limits.{roomBytes}
+use Rattle.scope.specs.Limits.{waysAt}
 use Rattle.byte_runs.specs.Runs.{Like}
 use Rattle.byte_classes.specs.Group.{ownPlace, Grouped, GroupAnswer}
 use Rattle.sets.specs.Layout.{imageAt}
@@ -31,7 +31,7 @@ determinise-requires c κs = let m = c .before .before .before .before in
     )
 
 same-length : tie.Need-same-length
-same-length c = let a = c .before .before .before .before .before .before .before .before .before .before .before .before .before .before .before .before .before .before .before .before .before in put-tail imageAt roomBytes (a .args .bytes .now) _ (omega (arith, a .pre .1 .bytes-long)) (c .before .before .before .before .determinise .ensures .image) .size
+same-length c = let a = c .before .before .before .before .before .before .before .before .before .before .before .before .before .before .before .before .before .before .before .before .before in put-tail imageAt waysAt (a .args .bytes .now) _ (omega (arith, a .pre .1 .bytes-long)) (c .before .before .before .before .determinise .ensures .image) .size
 
 same-length-2 : tie.Need-same-length-2
 same-length-2 c = c .before .before .before .before .determinise .ensures .words .size

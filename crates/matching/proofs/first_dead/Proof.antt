@@ -11,25 +11,22 @@ use Rattle.matching.proofs.first_dead.Statement.{statement}
 use Rattle.matching.proofs.first_dead.Tie as tie
 
 abbrev Inv-loop : tie.InvT-loop
-Inv-loop room text live q₀ place₀ q place = LedTo (machine room) text place q × ((j : ℕ) → j < place → Completable (machine room) (take j text))
+Inv-loop room text q₀ place₀ q place = LedTo (machine room) text place q × ((j : ℕ) → j < place → Completable (machine room) (take j text))
 
 abbrev μ-loop : tie.MeasureT-loop
-μ-loop room text live q₀ place₀ q place = length text - place
+μ-loop room text q₀ place₀ q place = length text - place
 
 loop-holds : tie.Need-loop-holds Inv-loop μ-loop
 loop-holds c = (at-start (search needs), below-none _)
 
-element-copy-out-if1 : tie.Need-element-copy-out-if1 Inv-loop μ-loop
-element-copy-out-if1 c = omega (arith, c .loop .inv .0 .state)
+is-live-requires : tie.Need-is-live-requires Inv-loop μ-loop
+is-live-requires c κs = (c .before .before .before .pre .0, c .loop .inv .0 .state)
 
 shared-slice-read-step : tie.Need-shared-slice-read-step Inv-loop μ-loop
-shared-slice-read-step c =
-    let l = c .before .before .before .loop in
-    let s = c .before .before .before .before .before .before .pre .1 in
-    inside (l .inv .0) (s .1) (s .0 .marks .live (l .q) (c .before .if1 .taken))
+shared-slice-read-step c = inside (c .before .before .before .loop .inv .0) (c .before .before .before .before .before .before .pre .1) (c .before .before .is-live .ensures .yes (c .before .if1 .taken))
 
 step-requires : tie.Need-step-requires Inv-loop μ-loop
-step-requires c κs = (c .before .before .before .before .before .before .pre .0, c .before .before .before .loop .inv .0 .state)
+step-requires c κs = (c .before .before .before .before .before .before .pre .0 .table, c .before .before .before .loop .inv .0 .state)
 
 add-place : tie.Need-add-place Inv-loop μ-loop
 add-place c = omega (arith, shared-slice-read-step (c .before))
@@ -39,15 +36,14 @@ loop-less c = omega (arith, shared-slice-read-step (c .before))
 
 loop-again : tie.Need-loop-again Inv-loop μ-loop
 loop-again c =
-    let l = c .before .before .before .before .loop in
-    let live = c .before .before .before .before .before .before .before .pre .1 .0 .marks .live (l .q) (c .before .before .if1 .taken) in
-    (at-more (l .inv .0) (shared-slice-read-step (c .before)) (c .step .ensures), below-more _ _ (l .inv .1) (live-prefix _ _ (rw (l .inv .0 .leads) at live)))
+    let v = c .before .before .before .before .loop .inv in
+    let live = c .before .before .before .is-live .ensures .yes (c .before .before .if1 .taken) in
+    (at-more (v .0) (shared-slice-read-step (c .before)) (c .step .ensures), below-more _ _ (v .1) (live-prefix _ _ (rw (v .0 .leads) at live)))
 
 returns : tie.Need-returns Inv-loop μ-loop
 returns c =
     let v = c .before .before .loop .inv in
-    let live = c .before .before .before .before .before .pre .1 .0 in
-    record { inside = v .0 .within; dead = λ x. c .if1 .left (live .all _ (v .0 .state) (rw (v .0 .leads) (prefix-live _ _ x))); before = v .1 }
+    record { inside = v .0 .within; dead = λ x. c .before .is-live .ensures .no (c .if1 .left) (rw (v .0 .leads) (prefix-live _ _ x)); before = v .1 }
 
 pub first-dead-spec : {M : Type 1} → statement M
 first-dead-spec =
@@ -56,7 +52,7 @@ first-dead-spec =
     Inv-loop
     μ-loop
     loop-holds
-    element-copy-out-if1
+    is-live-requires
     shared-slice-read-step
     step-requires
     add-place

@@ -20,30 +20,22 @@ returns c =
     let s = c .before .before .before .before .before in
     accepted (s .pre) (accepting (s .args .room .now) (s .args .text .now) (c .before .before .last-state .ensures .0) (c .if1 .taken))
 
-live-requires : tie.Need-live-requires
-live-requires c κs = search needs
-
-array-read-if2 : tie.Need-array-read-if2
-array-read-if2 c = search needs
+is-live-requires : tie.Need-is-live-requires
+is-live-requires c κs = (c .before .before .before .before .before .pre, c .before .before .last-state .ensures .1)
 
 returns-2 : tie.Need-returns-2
 returns-2 c =
-    let t = c .before .before .before .before .before in
-    let s = t .before .before in
+    let s = c .before .before .before .before .before .before .before in
     let q = c .before .before .before .before .last-state in
-    let live = c .before .live .ensures .marks .live (q .result) (c .if2 .taken) in
-    unfinished (s .pre)
-    (alive _ (s .args .text .now) (λ i. omega (arith, t .shared-slice-known2 .given i)) (rw (q .ensures .0) at live))
+    let live = c .before .is-live .ensures .yes (c .if2 .taken) in
+    unfinished (s .pre) (alive _ (s .args .text .now) (λ i. omega (arith, c .before .before .before .before .before .shared-slice-known2 .given i)) (rw (q .ensures .0) at live))
     (not-accepting (s .args .room .now) (s .args .text .now) (q .ensures .0) (c .before .before .if1 .left))
 
 first-dead-requires : tie.Need-first-dead-requires
-first-dead-requires c κs =
-    let q = c .before .before .before .before .before in
-    let live = c .before .before .live .ensures in
-    (q .before .before .before .pre, (live, λ l. c .before .if2 .left (live .all _ (q .last-state .ensures .1) (rw (q .last-state .ensures .0) l))))
+first-dead-requires c κs = let q = c .before .before .before .before .last-state in (c .before .before .before .before .before .before .before .pre, λ l. c .before .is-live .ensures .no (c .if2 .left) (rw (q .ensures .0) l))
 
 returns-3 : tie.Need-returns-3
-returns-3 c = dead (c .before .before .before .before .before .before .before .before .before .pre) (c .first-dead .ensures)
+returns-3 c = dead (c .before .before .before .before .before .before .before .before .pre) (c .first-dead .ensures)
 
 pub match-sound-spec : {M : Type 1} → statement M
 match-sound-spec =
@@ -53,8 +45,7 @@ match-sound-spec =
     add-if1
     shared-slice-read-if1
     returns
-    live-requires
-    array-read-if2
+    is-live-requires
     returns-2
     first-dead-requires
     returns-3)

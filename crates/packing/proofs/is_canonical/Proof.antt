@@ -14,10 +14,13 @@ returns : tie.Need-returns
 returns c = (fails (λ k. c .before .is-sound .ensures .no (not-true _ (c .if1 .taken)) (k .sound)), all-kept _ _)
 
 is-canonical-requires : tie.Need-is-canonical-requires
-is-canonical-requires c κs = (c .before .before .is-sound .ensures .yes (not-false _ (c .before .if1 .left)), search needs)
+is-canonical-requires c κs = (c .before .before .is-sound .ensures .yes (not-false _ (c .before .if1 .left)) .table, search needs)
 
 returns-2 : tie.Need-returns-2
-returns-2 c = let (d, w) = c .before .before .is-canonical .ensures in (d, tail-within (omega arith) w)
+returns-2 c =
+    let s = c .before .before .before .before .before .is-sound .ensures .yes (not-false _ (c .before .before .before .before .if1 .left)) in
+    let (d, w) = c .before .before .is-canonical .ensures in
+    (record { yes = λ e. record { sound = s; table = d .yes e }; no = λ e k. d .no e (k .table) }, tail-within (omega arith) w)
 
 pub is-canonical-spec : {M : Type 1} → statement M
 is-canonical-spec = tie.close (tie.spec is-sound-requires returns is-canonical-requires (λ c. search needs) returns-2)

@@ -31,14 +31,14 @@ returns-2 : tie.Need-returns-2
 returns-2 c = let (d, w) = c .before .before .before .before .before .before .before .before .before .before .is-canonical .ensures in no-form (lent (c .before .before .before .before .before .before .before .before .before .before .before .before)) (d .no (not-true _ (c .if2 .taken))) refl (cleared-after (omega arith) (omega arith) (all-kept _ 0) w (c .before .before .before .before .before .clear .ensures))
 
 form-length-requires : tie.Need-form-length-requires
-form-length-requires c κs = canonical c .sound
+form-length-requires c κs = canonical c .sound .table
 
 returns-3 : tie.Need-returns-3
 returns-3 c = let e = c .before .before in
     no-output (lent (e .before .before .before .before .before .before .before .before .before .before .before .before)) (canonical e) (omega (arith, c .before .form-length .ensures)) refl (cleared-after (omega arith) (omega arith) (all-kept _ 0) (e .before .before .before .before .before .before .before .before .before .before .is-canonical .ensures .1) (e .before .before .before .before .before .clear .ensures))
 
 pack-fields-requires : tie.Need-pack-fields-requires
-pack-fields-requires c κs = (canonical (c .before .before .before) .sound, omega (arith, c .before .before .form-length .ensures))
+pack-fields-requires c κs = (canonical (c .before .before .before) .sound .table, omega (arith, c .before .before .form-length .ensures))
 
 returns-4 : tie.Need-returns-4
 returns-4 c = let (n, p) = c .before .before .pack-fields .ensures in

@@ -6,7 +6,7 @@ use borrow.Author.Tests.{not-true, not-false}
 use Rattle.scope.specs.Operations.Buffers.{Lent}
 use Rattle.scope.specs.Operations.Unpack.{no-room, no-form, unpacked}
 use Rattle.buffers.proofs.OneMore.{cleared-after, all-kept}
-use Rattle.packing.proofs.ScratchImage.{no-image, not-canonical, copied}
+use Rattle.packing.proofs.ScratchImage.{no-image, not-canonical, adopted-canonical, adopted-form}
 use Rattle.packing.proofs.unpack.Statement.{statement}
 use Rattle.packing.proofs.unpack.Tie as tie
 
@@ -27,29 +27,32 @@ returns-2 : tie.Need-returns-2
 returns-2 c = let u = c .before .before .before .before .before .before .before .before .before .before in
     no-form (lent (u .before .before)) (no-image (u .unpack-fields .ensures .no (not-true _ (c .before .before .before .before .before .before .before .if2 .taken)))) refl (cleared-after (omega arith) (omega arith) (u .unpack-fields .ensures .tail) (all-kept _ 0) (c .before .before .before .before .clear .ensures))
 
-is-canonical-requires : tie.Need-is-canonical-requires
-is-canonical-requires c κs = lent (c .before .before .before .before .before .before .before) .scratch .words-long
+is-canonical-table-requires : tie.Need-is-canonical-table-requires
+is-canonical-table-requires c κs = lent (c .before .before .before .before .before .before .before) .scratch .words-long
 
 clear-requires-2 : tie.Need-clear-requires-2
 clear-requires-2 c κs = let i = c .before .before .before .before .before in let u = i .before .before .before .before .before .before in let s = lent (u .before .before) .scratch in
-    record { bytes-long = omega (arith, s .bytes-long, u .unpack-fields .ensures .tail .size); words-long = omega (arith, s .words-long, i .is-canonical .ensures .1 .size) }
+    record { bytes-long = omega (arith, s .bytes-long, u .unpack-fields .ensures .tail .size); words-long = omega (arith, s .words-long, i .is-canonical-table .ensures .1 .size) }
 
 returns-3 : tie.Need-returns-3
-returns-3 c = let i = c .before .before .before .before .before .before .before .before .before .before in let u = i .before .before .before .before .before .before in let (d, w) = i .is-canonical .ensures in
+returns-3 c = let i = c .before .before .before .before .before .before .before .before .before .before in let u = i .before .before .before .before .before .before in let (d, w) = i .is-canonical-table .ensures in
     no-form (lent (u .before .before)) (not-canonical (u .unpack-fields .ensures .yes (not-false _ (i .before .before .before .if2 .left))) (d .no (not-true _ (c .before .before .before .before .before .before .before .if3 .taken)))) refl
     (cleared-after (omega arith) (omega arith) (u .unpack-fields .ensures .tail) w (c .before .before .before .before .clear2 .ensures))
 
-copy-requires : tie.Need-copy-requires
-copy-requires c κs = let u = c .before .before .before .before .before .before .before .before .before .before .before in let l = lent (u .before .before) in (omega (arith, l .scratch .bytes-long, u .unpack-fields .ensures .tail .size), omega (arith, l .room-long))
+adopt-requires : tie.Need-adopt-requires
+adopt-requires c κs = (c .before .before .before .before .before .is-canonical-table .ensures .0 .yes (not-false _ (c .before .before .if3 .left)) .0, lent (c .before .before .before .before .before .before .before .before .before .before .before .before .before) .room-long)
 
 clear-requires-3 : tie.Need-clear-requires-3
 clear-requires-3 c κs = let i = c .before .before .before .before .before .before .before .before .before .before in let u = i .before .before .before .before .before .before in let s = lent (u .before .before) .scratch in
-    record { bytes-long = omega (arith, s .bytes-long, u .unpack-fields .ensures .tail .size); words-long = omega (arith, s .words-long, i .is-canonical .ensures .1 .size) }
+    record { bytes-long = omega (arith, s .bytes-long, u .unpack-fields .ensures .tail .size); words-long = omega (arith, s .words-long, i .is-canonical-table .ensures .1 .size) }
 
 returns-4 : tie.Need-returns-4
-returns-4 c = let e = c .before .before .before .before .before .before .before .before .before .before .before .before in let i = e .before .before .before in let u = i .before .before .before .before .before .before in let (d, w) = i .is-canonical .ensures in
-    let k = copied (u .unpack-fields .ensures .yes (not-false _ (i .before .before .before .if2 .left))) (d .yes (not-false _ (e .if3 .left))) (lent (u .before .before) .room-long) (c .before .before .before .before .before .before .before .before .before .copy .ensures) in
-    unpacked (lent (u .before .before)) (k .canonical) (k .form) (k .tail) (cleared-after (omega arith) (omega arith) (u .unpack-fields .ensures .tail) w (c .before .before .before .before .clear3 .ensures))
+returns-4 c = let e = c .before .before .before .before .before .before .before .before .before .before .before .before in let i = e .before .before .before in let u = i .before .before .before .before .before .before in let (d, w) = i .is-canonical-table .ensures in
+    let image = u .unpack-fields .ensures .yes (not-false _ (i .before .before .before .if2 .left)) in
+    let (s, k) = d .yes (not-false _ (e .if3 .left)) in
+    let l = lent (u .before .before) .room-long in
+    let a = c .before .before .before .before .before .before .before .before .before .adopt .ensures in
+    unpacked (lent (u .before .before)) (adopted-canonical image s k l a) (adopted-form image s k l a) (a .tail) (cleared-after (omega arith) (omega arith) (u .unpack-fields .ensures .tail) w (c .before .before .before .before .clear3 .ensures))
 
 pub unpack-spec : {M : Type 1} → statement M
 unpack-spec =
@@ -66,13 +69,13 @@ unpack-spec =
     (λ c. search needs)
     (λ c. search needs)
     returns-2
-    is-canonical-requires
+    is-canonical-table-requires
     clear-requires-2
     (λ c. search needs)
     (λ c. search needs)
     (λ c. search needs)
     returns-3
-    copy-requires
+    adopt-requires
     clear-requires-3
     (λ c. search needs)
     (λ c. search needs)

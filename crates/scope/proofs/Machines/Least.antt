@@ -6,12 +6,12 @@ use mathlib.Core.Path.{_≡_, sym, _∙_}
 use mathlib.Core.List.{List}
 use Rattle.scope.specs.Machines.Machine.{Machine, run, Same, Equal, Closed}
 use Rattle.scope.specs.Machines.Room.{statesOf, machine}
-use Rattle.scope.specs.Machines.Canonical.{Canonical}
+use Rattle.scope.specs.Machines.Canonical.{CanonicalTable}
 use Rattle.scope.proofs.Counting.Hole.{pigeon}
 use Rattle.scope.proofs.Machines.Run.{run-below, same-after}
 
 -- no closed machine for the same strings has fewer states
-pub least : (m : List ℕ) (N : Machine) → Canonical m → Closed N → Equal (machine m) N → statesOf m ≤ N .states
+pub least : (m : List ℕ) (N : Machine) → CanonicalTable m → Closed N → Equal (machine m) N → statesOf m ≤ N .states
 least m N c k e = pigeon At (statesOf m) (N .states) place one
   where
     At : ℕ → ℕ → Type 0

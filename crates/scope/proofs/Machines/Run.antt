@@ -5,7 +5,7 @@
 --   run-below: a closed machine stays among its states
 --   run-agree: two machines that step alike from the states of one run alike
 --   same-after: two machines that accept the same strings do so from wherever one string leads
---   sound-closed: a sound room holds a closed machine
+--   sound-closed: a sound table holds a closed machine
 use Prim.Native.Nat.{ℕ, zero, suc, _+_, _*_, _<_}
 use mathlib.Core.Path.{_≡_, refl, ap, _∙_}
 use mathlib.Core.List.{List, [], _∷_, _++_}
@@ -14,7 +14,7 @@ use lib.ListN.{take, getD}
 use Rattle.scope.specs.Limits.{byteValues, cellsAt}
 use Rattle.scope.specs.Bytes.{Bytes}
 use Rattle.scope.specs.Machines.Machine.{walk, Machine, run, Same, Equal, Closed}
-use Rattle.scope.specs.Machines.Room.{classesOf, classOf, nextOf, machine, Sound}
+use Rattle.scope.specs.Machines.Room.{classesOf, classOf, nextOf, machine, SoundTable}
 use Rattle.scope.proofs.Machines.Room.{cell-used}
 
 -- the second part is read from where the first led, whatever the steps
@@ -56,8 +56,8 @@ run-agree M N c e q (b ∷ w) h g = run-agree M N c e (M .next q b) w (c .inside
 pub same-after : (M N : Machine) → Equal M N → (u : List ℕ) → Bytes u → Same M (run M 0 u) N (run N 0 u)
 same-after M N e u g w h = rw (← run-append M 0 u w, ← run-append N 0 u w) (e (u ++ w) (bytes-append u w g h))
 
--- a sound room's machine is closed
-pub sound-closed : (m : List ℕ) → Sound m → Closed (machine m)
+-- the machine of a sound table is closed
+pub sound-closed : (m : List ℕ) → SoundTable m → Closed (machine m)
 unfolding nextOf
 sound-closed m s = record {
   some = s .some-state;

@@ -1,7 +1,7 @@
 -- Two canonical rooms for the same strings. Each is least, so they have as many states; a state corresponds to the one with the same strings, a class to
 -- the one with a common byte, and both are numbered on first arrival, so they have the same numbers, and the rooms the same bytes.
 --   row-met: a state that is reached is numbered before its row is read
---   unique: two canonical rooms for the same strings have the same 8,578 bytes
+--   unique-table, unique: two canonical rooms for the same strings are equal up to the ways home; they have the same 8,834 bytes
 use Prim.Native.Nat.{ℕ, _+_, _-_, _*_, _/_, _%_, _≤_, _<_}
 use mathlib.Core.Path.{_≡_, refl, sym, ap₂, _∙_}
 use mathlib.Core.Logic.{inl, inr}
@@ -11,12 +11,13 @@ use native.Mathlib.Omega.{arith}
 use lib.ListN.{getD}
 use Rattle.scope.specs.Limits.{byteValues, classesAt, marksAt, cellsAt}
 use Rattle.scope.specs.Machines.Machine.{Machine, Same, Equal, Closed, Reached}
-use Rattle.scope.specs.Machines.Room.{statesOf, classesOf, classOf, markOf, nextOf, machine, Sound, SameBytes}
-use Rattle.scope.specs.Machines.Canonical.{met, entry, Canonical}
+use Rattle.scope.specs.Machines.Room.{statesOf, classesOf, classOf, markOf, nextOf, machine, SoundTable, SameTables, SameBytes}
+use Rattle.scope.specs.Machines.Canonical.{met, entry, CanonicalTable, Canonical}
 use Rattle.scope.proofs.Counting.Tests.{split, bit-same}
 use Rattle.scope.proofs.Machines.Room.{SameParts, bytes-from-parts}
 use Rattle.scope.proofs.Machines.Run.{run-below, run-agree, sound-closed}
 use Rattle.scope.proofs.Machines.Least.{least}
+use Rattle.scope.proofs.Machines.Moved.{tables-bytes}
 use Rattle.scope.proofs.Counting.Arrival.{met-grow, met-above, arrival-one}
 
 entry-at : (M : Machine) (q b : ℕ) → b < byteValues → entry M (q * byteValues + b) ≡ M .next q b
@@ -40,20 +41,20 @@ row-met M q r = elim (split q (cut .states)) [ inl h ↦ h | inr h ↦ rw (r .le
     }
 
 -- a state of a canonical room is numbered before any of its row is read
-row-known : (m : List ℕ) → Canonical m → (x : ℕ) → x < statesOf m * byteValues → x / byteValues < met (entry (machine m)) 1 x
+row-known : (m : List ℕ) → CanonicalTable m → (x : ℕ) → x < statesOf m * byteValues → x / byteValues < met (entry (machine m)) 1 x
 row-known m c x h =
     let r : Reached (machine m) (x / byteValues) = c .reached (x / byteValues) (omega arith) in
     omega (arith, row-met (machine m) (x / byteValues) r, met-grow (entry (machine m)) 1 (x / byteValues * byteValues) x (omega arith))
 
 -- a class of a has a byte, whose class in b is below b's number of classes
-classes-most : (a b : List ℕ) → Canonical a → Sound b → ((x : ℕ) → x < byteValues → classOf a x ≡ classOf b x) → classesOf a ≤ classesOf b
-classes-most a b c s e =
-    let (x, h, i) = c .holds (classesOf a - 1) (omega (arith, c .sound .some-class)) in
+classes-most : (a b : List ℕ) → SoundTable a → CanonicalTable a → SoundTable b → ((x : ℕ) → x < byteValues → classOf a x ≡ classOf b x) → classesOf a ≤ classesOf b
+classes-most a b r c s e =
+    let (x, h, i) = c .holds (classesOf a - 1) (omega (arith, r .some-class)) in
     omega (arith, e x h, s .classes (classesAt + x) (omega arith) (omega arith))
 
-module _ (a b : List ℕ) (c : Canonical a) (d : Canonical b) (e : Equal (machine a) (machine b)) where
+module _ (a b : List ℕ) (s : SoundTable a) (t : SoundTable b) (c : CanonicalTable a) (d : CanonicalTable b) (e : Equal (machine a) (machine b)) where
   states : statesOf a ≡ statesOf b
-  states = omega (arith, least a (machine b) c (sound-closed b (d .sound)) e, least b (machine a) d (sound-closed a (c .sound)) (λ w g. sym (e w g)))
+  states = omega (arith, least a (machine b) c (sound-closed b t) e, least b (machine a) d (sound-closed a s) (λ w g. sym (e w g)))
 
   -- the states p of a and q of b have the same strings
   record SameStrings (p q : ℕ) : Type 0 where
@@ -71,16 +72,16 @@ module _ (a b : List ℕ) (c : Canonical a) (d : Canonical b) (e : Equal (machin
   entries =
       arrival-one (entry (machine a)) (entry (machine b)) 1 (statesOf a * byteValues) SameStrings state-left state-right start step (c .arrival) (rw states (d .arrival))
     where
-      start : (t : ℕ) → t < 1 → SameStrings t t
-      start t h = let z : t ≡ 0 = omega arith in rw z (record { in-left = c .sound .some-state; in-right = d .sound .some-state; same = e })
+      start : (v : ℕ) → v < 1 → SameStrings v v
+      start v h = let z : v ≡ 0 = omega arith in rw z (record { in-left = s .some-state; in-right = t .some-state; same = e })
 
-      step : (x : ℕ) → x < statesOf a * byteValues → ((t : ℕ) → t < met (entry (machine a)) 1 x → SameStrings t t) → SameStrings (entry (machine a) x) (entry (machine b) x)
+      step : (x : ℕ) → x < statesOf a * byteValues → ((v : ℕ) → v < met (entry (machine a)) 1 x → SameStrings v v) → SameStrings (entry (machine a) x) (entry (machine b) x)
       step x h k =
-          let s : SameStrings (x / byteValues) (x / byteValues) = k (x / byteValues) (row-known a c x h) in
+          let r : SameStrings (x / byteValues) (x / byteValues) = k (x / byteValues) (row-known a c x h) in
           record {
-            in-left = sound-closed a (c .sound) .inside (x / byteValues) (x % byteValues) (s .in-left) (omega arith);
-            in-right = sound-closed b (d .sound) .inside (x / byteValues) (x % byteValues) (s .in-right) (omega arith);
-            same = λ w g. s .same (x % byteValues ∷ w) (omega arith, g);
+            in-left = sound-closed a s .inside (x / byteValues) (x % byteValues) (r .in-left) (omega arith);
+            in-right = sound-closed b t .inside (x / byteValues) (x % byteValues) (r .in-right) (omega arith);
+            same = λ w g. r .same (x % byteValues ∷ w) (omega arith, g);
           }
 
   next : (q x : ℕ) → q < statesOf a → x < byteValues → nextOf a q x ≡ nextOf b q x
@@ -93,42 +94,46 @@ module _ (a b : List ℕ) (c : Canonical a) (d : Canonical b) (e : Equal (machin
   class-left : (p q r : ℕ) → Class p r → Class q r → p ≡ q
   class-left p q r (x, h, i, j) (y, k, l, m) = sym i ∙ c .share x y h k through ∙ l
     where
-      through : (s : ℕ) → s < statesOf a → nextOf a s x ≡ nextOf a s y
-      through s t = next s x t h ∙ d .alike x y h k (j ∙ sym m) s (rw states at t) ∙ sym (next s y t k)
+      through : (v : ℕ) → v < statesOf a → nextOf a v x ≡ nextOf a v y
+      through v g = next v x g h ∙ d .alike x y h k (j ∙ sym m) v (rw states at g) ∙ sym (next v y g k)
 
   class-right : (p q r : ℕ) → Class p q → Class p r → q ≡ r
-  class-right p q r (x, h, i, j) (y, k, l, m) = sym j ∙ d .share x y h k (λ s t. through s (rw (← states) at t)) ∙ m
+  class-right p q r (x, h, i, j) (y, k, l, m) = sym j ∙ d .share x y h k (λ v g. through v (rw (← states) at g)) ∙ m
     where
-      through : (s : ℕ) → s < statesOf a → nextOf b s x ≡ nextOf b s y
-      through s t = sym (next s x t h) ∙ c .alike x y h k (i ∙ sym l) s t ∙ next s y t k
+      through : (v : ℕ) → v < statesOf a → nextOf b v x ≡ nextOf b v y
+      through v g = sym (next v x g h) ∙ c .alike x y h k (i ∙ sym l) v g ∙ next v y g k
 
   class : (x : ℕ) → x < byteValues → classOf a x ≡ classOf b x
   class =
-      arrival-one (classOf a) (classOf b) 0 byteValues Class class-left class-right (λ t h. absurd (omega arith)) (λ x h k. (x, h, refl, refl)) (c .smallest)
+      arrival-one (classOf a) (classOf b) 0 byteValues Class class-left class-right (λ v h. absurd (omega arith)) (λ x h k. (x, h, refl, refl)) (c .smallest)
       (d .smallest)
 
   classes : classesOf a ≡ classesOf b
-  classes = omega (arith, classes-most a b c (d .sound) class, classes-most b a d (c .sound) (λ x h. sym (class x h)))
+  classes = omega (arith, classes-most a b s c t class, classes-most b a t d s (λ x h. sym (class x h)))
 
   mark : (q : ℕ) → q < statesOf a → markOf a q ≡ markOf b q
   mark q h =
       let r = c .reached q h in
-      let runs = run-agree (machine a) (machine b) (sound-closed a (c .sound)) next 0 (r .word) (c .sound .some-state) (r .bytes) in
-      let left : markOf a q < 2 = c .sound .marks (marksAt + q) (omega arith) (omega arith) in
-      let right : markOf b q < 2 = d .sound .marks (marksAt + q) (omega (arith, states)) (omega arith) in
+      let runs = run-agree (machine a) (machine b) (sound-closed a s) next 0 (r .word) (s .some-state) (r .bytes) in
+      let left : markOf a q < 2 = s .marks (marksAt + q) (omega arith) (omega arith) in
+      let right : markOf b q < 2 = t .marks (marksAt + q) (omega (arith, states)) (omega arith) in
       bit-same (markOf a q) (markOf b q) left right (rw (← runs, r .leads) at (e (r .word) (r .bytes)))
 
   cell : (i : ℕ) → i < statesOf a * classesOf a → getD a (cellsAt + i) 0 ≡ getD b (cellsAt + i) 0
   unfolding nextOf
   cell i h =
-      let k : 0 < classesOf a = c .sound .some-class in
+      let k : 0 < classesOf a = s .some-class in
       let (x, l, j) = c .holds (i % classesOf a) (mod-lt i k) in
       let z : i / classesOf a * classesOf a + i % classesOf a ≡ i = div-add-mod' i (classesOf a) in
       rw (← class x l, ← classes, j, z) at (next (i / classesOf a) x (div-lt-iff-lt-mul k .1 h) l)
 
--- two canonical rooms for the same strings are equal, byte by byte
-pub unique : (a b : List ℕ) → Canonical a → Canonical b → Equal (machine a) (machine b) → SameBytes a b
-unique a b c d e = bytes-from-parts a b parts (c .sound .marks-off) (d .sound .marks-off) (c .sound .cells-off) (d .sound .cells-off)
+-- two canonical tables for the same strings are equal, byte by byte
+pub unique-table : (a b : List ℕ) → SoundTable a → SoundTable b → CanonicalTable a → CanonicalTable b → Equal (machine a) (machine b) → SameTables a b
+unique-table a b s t c d e = bytes-from-parts a b parts (s .marks-off) (t .marks-off) (s .cells-off) (t .cells-off)
   where
     parts : SameParts a b
-    parts = record { states = states a b c d e; classes = classes a b c d e; class = class a b c d e; mark = mark a b c d e; cell = cell a b c d e }
+    parts = record { states = states a b s t c d e; classes = classes a b s t c d e; class = class a b s t c d e; mark = mark a b s t c d e; cell = cell a b s t c d e }
+
+-- two canonical rooms for the same strings are equal, byte by byte: where their tables are, their ways home are
+pub unique : (a b : List ℕ) → Canonical a → Canonical b → Equal (machine a) (machine b) → SameBytes a b
+unique a b c d e = tables-bytes a b (c .sound) (d .sound) (unique-table a b (c .sound .table) (d .sound .table) (c .table) (d .table) e)

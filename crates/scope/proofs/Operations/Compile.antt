@@ -201,7 +201,7 @@ module _ {text room room′ bytes bytes′ words words′ : List ℕ} where
 
   pub compiled-least : Compiles text room room′ bytes bytes′ words words′ DONE 0 → (t : Tree) → Pattern text t → (N : Machine) → Closed N → Recognises N (Words (expr t))
       → statesOf room′ ≤ N .states
-  compiled-least x t p N c r = least room′ N (compiled-canonical x) c (one-language (machine room′) N (Words (expr t)) (compiled-exact x t p) r)
+  compiled-least x t p N c r = least room′ N (compiled-canonical x .table) c (one-language (machine room′) N (Words (expr t)) (compiled-exact x t p) r)
 
 module _ {text text′ room room′ u v bytes b bytes′ b′ words w words′ w′ : List ℕ} where
   pub same-room : Compiles text room u bytes b words w DONE 0 → Compiles text′ room′ v bytes′ b′ words′ w′ DONE 0 → (t t′ : Tree) → Pattern text t → Pattern text′ t′

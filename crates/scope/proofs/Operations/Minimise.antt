@@ -37,4 +37,4 @@ canonical-stays {from} {room′ = room′} c (minimised l s n e k t) = unique fr
 -- no complete machine for the same strings has fewer states
 pub minimised-least : {from room room′ bytes bytes′ words words′ : List ℕ} → Minimises from room room′ bytes bytes′ words words′ DONE
     → (N : Machine) → Closed N → Equal (machine from) N → statesOf room′ ≤ N .states
-minimised-least {room′ = room′} (minimised l s n e k t) N c f = least room′ N n c (λ w g. sym (e w g) ∙ f w g)
+minimised-least {room′ = room′} (minimised l s n e k t) N c f = least room′ N (n .table) c (λ w g. sym (e w g) ∙ f w g)

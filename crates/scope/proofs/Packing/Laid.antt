@@ -1,7 +1,7 @@
 -- The form of a room, field by field: a bit sequence is laid out for a room, and either determines the other.
 --   form-first: the first byte of a form begins with the form's number
 --   form-laid: the bits of a form are laid out so
---   laid-one, bits-one, one-form: the bits have one room, the room one sequence of bits, and a form one room
+--   laid-one, bits-one, one-table, one-form: the bits have one table, the room one sequence of bits, and a form one table and one sound room
 use Prim.Native.Nat.{ℕ, zero, suc, _+_, _-_, _*_, _/_, _%_, _^_, _≤_, _<_}
 use mathlib.Core.Path.{_≡_, refl, sym, ap, _∙_}
 use mathlib.Core.Logic.{_⊎_, inl, inr}
@@ -12,19 +12,20 @@ use lib.Dec.{lit<}
 use lib.ListN.{length, getD, take, drop, length-append, List·getD-eq-default}
 use lib.Seq.{getD-take, getD-drop}
 use Rattle.scope.specs.Limits.{byteValues, classLimit, stateLimit, classesAt, marksAt, cellsAt, roomBytes}
-use Rattle.scope.specs.Machines.Room.{statesOf, classesOf, Below, Sound}
+use Rattle.scope.specs.Machines.Room.{statesOf, classesOf, Below, SoundTable, Sound, SameTables, SameBytes}
 use Rattle.scope.specs.Packing.PackedForm.{stateBits, bits, fields, value, formBits, formLength, formByte, FormOf}
 use Rattle.scope.specs.Packing.Laid.{bitOf, from, Holds, classesBit, marksBit, cellsBit, endBit, Laid, Framed}
 use Rattle.scope.proofs.Counting.Tests.{split}
 use Rattle.scope.proofs.Machines.Room.{SameParts, bytes-from-parts}
+use Rattle.scope.proofs.Machines.Moved.{tables-bytes}
 use Rattle.scope.proofs.Packing.PackedForm.{bits-length, fields-length, part-length, form-bits}
 use Rattle.scope.proofs.Packing.ReadBack.{Bits, value-ext, value-lt, value-join, value-one, bits-at, fields-at, bits-are, fields-are, join-are}
 
-pub framed : (m : List ℕ) → Sound m → Framed m
+pub framed : (m : List ℕ) → SoundTable m → Framed m
 framed m s = record { some-state = s .some-state; some-class = s .some-class; marks-off = s .marks-off; cells-off = s .cells-off }
 
--- a room is a function of its bit sequence
-pub laid-one : (b : ℕ → ℕ) (m n : List ℕ) → Framed m → Framed n → Laid b m → Laid b n → (i : ℕ) → i < roomBytes → getD m i 0 ≡ getD n i 0
+-- a table is a function of its bit sequence
+pub laid-one : (b : ℕ → ℕ) (m n : List ℕ) → Framed m → Framed n → Laid b m → Laid b n → SameTables m n
 laid-one b m n s t u v = bytes-from-parts m n parts (s .marks-off) (t .marks-off) (s .cells-off) (t .cells-off)
   where
     states : statesOf m ≡ statesOf n
@@ -96,7 +97,7 @@ form-first m = omega (arith, value-join 4 4 (bitOf (formBits m)), number-first m
 length-two : (k l : List ℕ) (p n : ℕ) → length k ≡ p → length l ≡ n → length (k ++ l) ≡ p + n
 length-two k l p n e f = length-append k l ∙ rw (e, f)
 
-pub form-laid : (m : List ℕ) → Sound m → Laid (bitOf (formBits m)) m
+pub form-laid : (m : List ℕ) → SoundTable m → Laid (bitOf (formBits m)) m
 unfolding formBits
 form-laid m s =
     let long : roomBytes ≤ length m = s .long in
@@ -171,8 +172,13 @@ form-bit m n f u v j = elim (split (j / 8) (formLength m)) [
       List·getD-eq-default (formBits m) 0 {n = j} (omega arith) ∙ sym (List·getD-eq-default (formBits n) 0 {n = j} (omega (arith, u .size, v .size)))
 ]
 
-pub one-form : (m n f : List ℕ) → Sound m → Sound n → FormOf m f → FormOf n f → (i : ℕ) → i < roomBytes → getD m i 0 ≡ getD n i 0
-one-form m n f s t u v =
+-- rooms with one form have one table
+pub one-table : (m n f : List ℕ) → SoundTable m → SoundTable n → FormOf m f → FormOf n f → SameTables m n
+one-table m n f s t u v =
     let e : (j : ℕ) → bitOf (formBits m) j ≡ bitOf (formBits n) j = form-bit m n f u v in
     let l = form-laid n t in
     laid-one (bitOf (formBits m)) m n (framed m s) (framed n t) (form-laid m s) (laid-ext (bitOf (formBits n)) (bitOf (formBits m)) n (λ j. sym (e j)) l)
+
+-- and so they are one room
+pub one-form : (m n f : List ℕ) → Sound m → Sound n → FormOf m f → FormOf n f → SameBytes m n
+one-form m n f s t u v = tables-bytes m n s t (one-table m n f (s .table) (t .table) u v)

@@ -8,7 +8,7 @@ use native.Mathlib.Nat.{mul-le-mul, mul-suc}
 use native.Mathlib.Omega.{arith}
 use lib.ListN.{length, take, drop, length-append, length-take, length-drop}
 use Rattle.scope.specs.Limits.{byteValues, classesAt, marksAt, cellsAt, roomBytes, stateLimit, classLimit}
-use Rattle.scope.specs.Machines.Room.{statesOf, classesOf, Sound}
+use Rattle.scope.specs.Machines.Room.{statesOf, classesOf, SoundTable}
 use Rattle.scope.specs.Packing.PackedForm.{bits, fields, formBits}
 
 pub bits-length : (n x : ℕ) → length (bits n x) ≡ n
@@ -26,7 +26,7 @@ pub part-length : (m : List ℕ) (from n : ℕ) → from + n ≤ length m → le
 part-length m from n h = simp (length-take, length-drop) (omega arith)
 
 -- "That is 1,553 + n + 7·n·k bits before filling."
-pub form-bits : (m : List ℕ) → Sound m → length (formBits m) ≡ 1553 + statesOf m + 7 * (statesOf m * classesOf m)
+pub form-bits : (m : List ℕ) → SoundTable m → length (formBits m) ≡ 1553 + statesOf m + 7 * (statesOf m * classesOf m)
 unfolding formBits
 form-bits m s =
     let l : roomBytes ≤ length m = s .long in

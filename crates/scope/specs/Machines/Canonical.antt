@@ -2,6 +2,7 @@
 --   met f from x: how many numbers are in use before f x is read, where `from` were at the start
 --   Arrival f from to: f 0 .. f (to - 1) number things on first arrival: each is in use already, or the next number
 --   entry M x: the table in the order of reading, "row by row, bytes ascending"
+--   CanonicalTable m: the table of the room is the canonical one
 --   Canonical m: the room is canonical
 use Prim.Native.Nat.{ℕ, zero, suc, _*_, _/_, _%_, _≤_, _<_, max}
 use mathlib.Core.Path.{_≡_}
@@ -20,9 +21,7 @@ Arrival f from to = (x : ℕ) → x < to → f x ≤ met f from x
 abbrev pub entry : Machine → ℕ → ℕ
 entry M x = M .next (x / byteValues) (x % byteValues)
 
-pub record Canonical (m : List ℕ) : Type 0 where
-  -- "unused marks and cells are 0", and the rest of soundness
-  pub sound : Sound m
+pub record CanonicalTable (m : List ℕ) : Type 0 where
   -- "all states are reached"
   pub reached : (q : ℕ) → q < statesOf m → Reached (machine m) q
   -- "no two accept the same strings"
@@ -36,3 +35,8 @@ pub record Canonical (m : List ℕ) : Type 0 where
   pub holds : (c : ℕ) → c < classesOf m → (b : ℕ) × (b < byteValues) × (classOf m b ≡ c)
   -- "classes are numbered by their smallest byte"
   pub smallest : Arrival (classOf m) 0 byteValues
+
+pub record Canonical (m : List ℕ) : Type 0 where
+  -- "unused marks and cells are 0", and the rest of soundness
+  pub sound : Sound m
+  pub table : CanonicalTable m

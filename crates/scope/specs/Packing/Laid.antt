@@ -8,7 +8,7 @@ use Prim.Native.Nat.{ℕ, _+_, _-_, _*_, _≤_, _<_}
 use mathlib.Core.Path.{_≡_}
 use mathlib.Core.List.{List}
 use lib.ListN.{getD}
-use Rattle.scope.specs.Limits.{byteValues, classesAt, marksAt, cellsAt, roomBytes}
+use Rattle.scope.specs.Limits.{byteValues, classesAt, marksAt, cellsAt, waysAt}
 use Rattle.scope.specs.Machines.Room.{statesOf, classesOf, Below}
 use Rattle.scope.specs.Packing.PackedForm.{stateBits, value}
 
@@ -50,4 +50,4 @@ pub record Framed (m : List ℕ) : Type 0 where
   pub some-state : 1 ≤ statesOf m
   pub some-class : 1 ≤ classesOf m
   pub marks-off : Below m (marksAt + statesOf m) cellsAt 1
-  pub cells-off : Below m (cellsAt + statesOf m * classesOf m) roomBytes 1
+  pub cells-off : Below m (cellsAt + statesOf m * classesOf m) waysAt 1

@@ -27,7 +27,7 @@ returns-3 : tie.Need-returns-3
 returns-3 c = no-form (lent (c .before .before .before .before .before .before .before .before .before)) (c .before .before .before .before .before .before .before .before .is-sound .ensures .no (not-true _ (c .before .before .before .before .before .before .before .if3 .taken))) refl (c .before .before .before .before .clear .ensures)
 
 smallest-requires : tie.Need-smallest-requires
-smallest-requires c κs = let l = lent (c .before .before .before .before) in (c .before .before .before .is-sound .ensures .yes (not-false _ (c .before .before .if3 .left)), (l .room-long, omega (arith, l .scratch .words-long)))
+smallest-requires c κs = let l = lent (c .before .before .before .before) in (c .before .before .before .is-sound .ensures .yes (not-false _ (c .before .before .if3 .left)) .table, (l .room-long, omega (arith, l .scratch .words-long)))
 
 clear-requires-2 : tie.Need-clear-requires-2
 clear-requires-2 c κs = let s = lent (c .before .before .before .before .before .before .before .before .before .before .before) .scratch in record { bytes-long = s .bytes-long; words-long = omega (arith, s .words-long, c .before .before .before .before .before .before .smallest .ensures .1 .size) }
