@@ -12,14 +12,14 @@ use std::os::raw::{c_int, c_void};
 /// For each operation the bytes that it was seen to use, and the most that it may ever use. It may use an eighth more than
 /// it was seen to, and never more than that.
 const SEEN: [(&str, usize, usize); 8] = [
-    ("compile", 8_328, 13_000),
-    ("minimise", 7_400, 8_000),
-    ("match", 528, 1_024),
+    ("compile", 8_952, 13_000),
+    ("minimise", 7_464, 8_000),
+    ("match", 592, 1_024),
     ("compare", 5_480, 8_000),
     ("pack", 7_432, 8_000),
     ("unpack", 7_432, 8_000),
-    ("desk_open", 144, 1_024),
-    ("desk_key", 928, 1_024),
+    ("desk_open", 576, 1_024),
+    ("desk_key", 816, 1_024),
 ];
 
 /// The part of a stack that is painted at once.

@@ -1,5 +1,6 @@
 -- By the mark, and then by whether there is a way.
 use mathlib.Core.Path.{refl}
+use native.Mathlib.Omega.{arith}
 use borrow.Author.Needs.{needs}
 use borrow.Author.Tests.{eq-eqb, ne-eqb}
 use Rattle.scope.proofs.Counting.Tests.{below, not-below}
@@ -13,7 +14,7 @@ returns c = rw (eq-eqb (c .before .args .mark) 1 (c .if1 .taken)) refl
 
 returns-2 : tie.Need-returns-2
 unfolding rightKey
-returns-2 c = rw (ne-eqb (c .before .before .args .mark) 1 (c .before .if1 .left), below (c .before .before .args .least) keys .full (c .if2 .taken)) refl
+returns-2 c = rw (ne-eqb (c .before .before .args .mark) 1 (c .before .if1 .left), below (c .before .before .args .least) keys .full (omega arith)) refl
 
 returns-3 : tie.Need-returns-3
 unfolding rightKey
