@@ -1,4 +1,4 @@
--- The last state says it: its mark, else its live mark; where that is 0, the place is looked for.
+-- The last state says it: its mark, else its way home; where it has none, the place is looked for.
 use native.Mathlib.Omega.{arith}
 use borrow.Author.Needs.{needs}
 use Rattle.scope.specs.Operations.Match.{accepted, dead, unfinished}
@@ -21,7 +21,7 @@ returns c =
     accepted (s .pre) (accepting (s .args .room .now) (s .args .text .now) (c .before .before .last-state .ensures .0) (c .if1 .taken))
 
 is-live-requires : tie.Need-is-live-requires
-is-live-requires c κs = (c .before .before .before .before .before .pre, c .before .before .last-state .ensures .1)
+is-live-requires c κs = search needs
 
 returns-2 : tie.Need-returns-2
 returns-2 c =
