@@ -1,10 +1,11 @@
 -- Keys of ways below the number of states have the order of the ways. So a state has the key that the least key gives exactly if it has the way that the least way gives.
+--   Short k: k is the key of a way below the most states, or of none
 --   wayByKey k: the way of a key
 --   key-way: a state's way is that of its key; way-key: a way below the number of states, or none, has a short key
 --   by-key: the way of a greater key is no less
---   right-keys: a key is right exactly if its way is
+--   right-keys: a key is right exactly if its way is; right-key-cases: what right keys there are
 use Prim.Native.Nat.{ℕ, suc, _+_, _*_, _/_, _%_, _≤_, _<_}
-use mathlib.Core.Path.{_≡_, refl, sym, _∙_}
+use mathlib.Core.Path.{_≡_, refl, _∙_}
 use mathlib.Core.Bool.{Bool, true, false, cond}
 use mathlib.Core.Logic.{_⊎_, inl, inr, _↔_}
 use mathlib.Core.List.{List}
@@ -15,7 +16,10 @@ use Rattle.scope.specs.Limits.{byteValues, stateLimit, waysAt, noWay}
 use Rattle.scope.proofs.Counting.Tests.{split, below, not-below}
 use Rattle.room.specs.Head.{wayOf}
 use Rattle.ways.specs.LeastOver.{rightWay}
-use Rattle.soundness.specs.WaysJudged.{keyOf, keys, Short, rightKey}
+use Rattle.soundness.specs.WaysJudged.{keyOf, keys, rightKey}
+
+abbrev pub Short : ℕ → Type 0
+Short k = (k ≡ noWay) ⊎ ((k < keys) × (k % byteValues ≡ 0))
 
 unfoldable pub wayByKey : ℕ → ℕ
 wayByKey k = cond (ltb k noWay) (k / byteValues) noWay
@@ -71,3 +75,9 @@ right-keys false k r s (inr (l, t)) = let x : ltb r keys ≡ true = below r keys
     go : Short k → wayByKey k ≡ suc (r / byteValues) → k ≡ r + byteValues
     go (inl z) e = absurd (omega (arith, by-none k (omega arith)))
     go (inr (m, z)) e = omega (arith, by-short k (omega arith))
+
+-- a right key is 0, or none, or 256 more than the least
+pub right-key-cases : (a : Bool) (r : ℕ) → (rightKey a r ≡ 0) ⊎ (rightKey a r ≡ noWay) ⊎ ((r < keys) × (rightKey a r ≡ r + byteValues))
+unfolding rightKey
+right-key-cases true r = inl refl
+right-key-cases false r = elim (split r keys) [ inl l ↦ inr (inr (l, rw (below r keys .full l) refl)) | inr l ↦ inr (inl (rw (not-below r keys l) refl)) ]

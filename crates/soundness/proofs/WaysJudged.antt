@@ -1,16 +1,17 @@
 -- Ways home are right exactly if each state has what the least of those that bytes lead to gives it.
---   least-four: the least, lowered by four classes
---   Lowering, lowered-start, lowered-none, lowered-more, lowered-all: the states before q are lowered; no class is taken yet; no state is lowered, one more, all
+--   least-first, least-next, least-four: the least over one class; lowered by one more; by four
+--   lowered-none, lowered-more: no state is lowered, one more
+--   Left m l i q least: the states from q on are not lowered yet; left-none, left-more: all, one fewer
 --   ways-judged: what is tested decides whether the ways home are sound
-use Prim.Native.Nat.{ℕ, _+_, _*_, _≤_, _<_, min}
+use Prim.Native.Nat.{ℕ, zero, suc, _+_, _*_, _/_, _%_, _≤_, _<_, min}
 use mathlib.Core.Path.{_≡_, refl, sym, _∙_}
 use mathlib.Core.Bool.{Bool}
 use mathlib.Core.Logic.{_⊎_, inl, inr}
 use mathlib.Core.List.{List}
 use native.Mathlib.Omega.{arith}
-use lib.ListN.{length, getD, set, length-set, replicate, length-replicate, getD-replicate}
+use lib.ListN.{length, getD, set, length-set}
 use lib.Seq.{getD-set-same, getD-set-other}
-use Rattle.scope.specs.Limits.{byteValues, classLimit, stateLimit, waysAt, roomBytes, noWay}
+use Rattle.scope.specs.Limits.{byteValues, stateLimit, waysAt, roomBytes, noWay}
 use Rattle.scope.specs.Machines.Ways.{Way, fewest, none}
 use Rattle.scope.specs.Machines.Room.{statesOf, cellOf, machine, Below, SoundTable, SoundWays}
 use Rattle.scope.proofs.Counting.Tests.{split}
@@ -22,10 +23,18 @@ use Rattle.ways.specs.Held.{HeldClasses}
 use Rattle.ways.specs.LeastOver.{LeastOver}
 use Rattle.ways.proofs.HeldClasses.{held-below}
 use Rattle.ways.proofs.LeastOver.{least-none, least-more, right-rule, rule-right}
-use Rattle.way_rules.proofs.Rules.{rules-way, way-rules, fewest-few}
+use Rattle.way_rules.proofs.Rules.{descent, rules-way, way-rules, fewest-few}
 use Rattle.ways.proofs.Kept.{ways-kept}
-use Rattle.soundness.specs.WaysJudged.{four, keyOf, Short, ShortKeys, Lowered, RightKeys}
-use Rattle.soundness.proofs.Keys.{wayByKey, by-short, by-none, by-key, key-way, way-key, right-keys}
+use Rattle.soundness.specs.WaysJudged.{four, keyOf, keys, Lowered, RightKeys}
+use Rattle.soundness.proofs.Keys.{Short, wayByKey, by-short, by-none, by-key, key-way, way-key, right-keys, right-key-cases}
+
+-- the first class
+pub least-first : {m l : List ℕ} {f : ℕ → ℕ} {q x : ℕ} → x ≡ f (cellOf m q (getD l 0 0)) → x ≤ noWay → LeastOver m f l 1 q x
+least-first {m} {l} {f} {q} {x} e h = let z : x ≡ min noWay (f (cellOf m q (getD l 0 0))) = omega arith in rw z (least-more (least-none m f l q))
+
+-- one class more
+pub least-next : {m l : List ℕ} {f : ℕ → ℕ} {i q r x : ℕ} → LeastOver m f l i q r → x ≡ min r (f (cellOf m q (getD l i 0))) → LeastOver m f l (i + 1) q x
+least-next a e = rw e (least-more a)
 
 -- four classes more
 pub least-four : {m l : List ℕ} {f : ℕ → ℕ} {i q r : ℕ} (x y z s : ℕ) → LeastOver m f l i q r
@@ -40,78 +49,106 @@ least-four {m} {l} {f} {i} {q} {r} x y z s a e g h k =
     let t : s ≡ min (min y c) d = omega arith in
     rw (t, g, e) (rw i3 at (least-more (rw i2 at (least-more (rw i1 at (least-more (least-more a)))))))
 
--- no class is taken yet
-pub lowered-start : {m : List ℕ} → SoundTable m → (l : List ℕ) → Lowered m l 0 (replicate stateLimit noWay)
-lowered-start {m} s l = record {
-  size = length-replicate stateLimit noWay;
-  each = λ q h. rw (getD-replicate stateLimit q noWay 0 (omega (arith, s .few-states))) (least-none m (keyOf m) l q);
+-- ---- state by state
+
+pub lowered-none : {m l : List ℕ} {i : ℕ} {least : List ℕ} → length least ≡ stateLimit → Lowered m l i 0 least
+lowered-none e = record { size = e; each = λ p h. absurd (omega arith) }
+
+-- a state that is not lowered keeps what it has
+other : (least : List ℕ) (q p r : ℕ) → (p ≡ q → ⊥) → getD (set least q r) p 0 ≡ getD least p 0
+other least q p r e = getD-set-other least q p r 0 e
+
+pub lowered-more : {m l : List ℕ} {i q : ℕ} {least : List ℕ} (r : ℕ) → Lowered m l i q least → q < stateLimit → LeastOver m (keyOf m) l i q r → Lowered m l i (q + 1) (set least q r)
+lowered-more {m} {l} {i} {q} {least} r a h s = record {
+  size = length-set least q r ∙ a .size;
+  each = λ p k. elim (split p q) [
+    | inl g ↦ rw (other least q p r (λ e. omega arith)) (a .each p g)
+    | inr g ↦ (let e : p ≡ q = omega arith in rw (e, getD-set-same least q r 0 (omega (arith, a .size))) s)
+  ];
 }
 
--- those before q are lowered
-pub record Lowering (m l : List ℕ) (i q : ℕ) (least : List ℕ) : Type 0 where
-  pub size : length least ≡ stateLimit
-  pub done : (p : ℕ) → p < q → LeastOver m (keyOf m) l (i + four) p (getD least p 0)
-  pub left : (p : ℕ) → p < statesOf m → q ≤ p → LeastOver m (keyOf m) l i p (getD least p 0)
+abbrev pub Left : List ℕ → List ℕ → ℕ → ℕ → List ℕ → Type 0
+Left m l i q least = (p : ℕ) → p < statesOf m → q ≤ p → LeastOver m (keyOf m) l i p (getD least p 0)
 
-pub lowered-none : {m l : List ℕ} {i : ℕ} {least : List ℕ} → Lowered m l i least → Lowering m l i 0 least
-lowered-none a = record { size = a .size; done = λ p h. absurd (omega arith); left = λ p h k. a .each p h }
-
-module _ {m l : List ℕ} {i q : ℕ} {least : List ℕ} (a : Lowering m l i q least) where
-  pub lowered-more : (r : ℕ) → q < stateLimit → LeastOver m (keyOf m) l (i + four) q r → Lowering m l i (q + 1) (set least q r)
-  lowered-more r h s = record {
-    size = length-set least q r ∙ a .size;
-    done = λ p k. elim (split p q) [
-      | inl g ↦ rw (other p (λ e. omega arith)) (a .done p g)
-      | inr g ↦ (let e : p ≡ q = omega arith in rw (e, getD-set-same least q r 0 (omega (arith, a .size))) s)
-    ];
-    left = λ p k g. rw (other p (λ e. omega arith)) (a .left p k (omega arith));
-  }
-    where
-      other : (p : ℕ) → (p ≡ q → ⊥) → getD (set least q r) p 0 ≡ getD least p 0
-      other p e = getD-set-other least q p r 0 e
-
-  pub lowered-all : statesOf m ≤ q → Lowered m l (i + four) least
-  lowered-all h = record { size = a .size; each = λ p k. a .done p (omega arith) }
+pub left-more : (m l : List ℕ) (i q : ℕ) (least : List ℕ) (r : ℕ) → Left m l i q least → Left m l i (q + 1) (set least q r)
+left-more m l i q least r a p h k = rw (other least q p r (λ e. omega arith)) (a p h (omega arith))
 
 -- ---- what is right
 
-module _ {m l : List ℕ} {n i : ℕ} (s : SoundTable m) (g : (j : ℕ) → getD m j 0 < byteValues) (h : HeldClasses m l n) (high : i ≤ classLimit)
-    (k : ShortKeys m (statesOf m)) where
-  -- a listed class leads to a state
-  leads : (q j : ℕ) → q < statesOf m → j < i → cellOf m q (getD l j 0) < statesOf m
-  leads q j x y = cell-known s q (getD l j 0) x (held-below s h j (omega arith) (omega arith)) .1
+-- a listed class leads to a state
+leads : {m l : List ℕ} {n : ℕ} → SoundTable m → HeldClasses m l n → (q j : ℕ) → q < statesOf m → j < n → cellOf m q (getD l j 0) < statesOf m
+leads {m} {l} s h q j x y = cell-known s q (getD l j 0) x (held-below s h j y (omega arith)) .1
 
+module _ {m l : List ℕ} {n : ℕ} (s : SoundTable m) (g : (j : ℕ) → getD m j 0 < byteValues) (h : HeldClasses m l n)
+    (k : (q : ℕ) → q < statesOf m → Short (keyOf m q)) where
   -- the least key is short
-  least-short : {q r : ℕ} → q < statesOf m → LeastOver m (keyOf m) l i q r → Short r
+  least-short : {q r : ℕ} → q < statesOf m → LeastOver m (keyOf m) l n q r → Short r
   least-short {q} {r} x a = elim (split r noWay) [
-    | inl o ↦ (let (j, y, e) = a .some o in rw e (k (cellOf m q (getD l j 0)) (leads q j x y)))
+    | inl o ↦ (let (j, y, e) = a .some o in rw e (k (cellOf m q (getD l j 0)) (leads s h q j x y)))
     | inr o ↦ inl (omega (arith, a .most))
   ]
 
   -- and its way is the least way
-  least-way : {q r : ℕ} → q < statesOf m → LeastOver m (keyOf m) l i q r → LeastOver m (wayOf m) l i q (wayByKey r)
+  least-way : {q r : ℕ} → q < statesOf m → LeastOver m (keyOf m) l n q r → LeastOver m (wayOf m) l n q (wayByKey r)
   least-way {q} {r} x a = record {
     most = elim (split r noWay) [ inl o ↦ omega (arith, by-short r o) | inr o ↦ omega (arith, by-none r o) ];
-    below = λ j y. (let v = cellOf m q (getD l j 0) in rw (key-way m g v (k v (leads q j x y))) (by-key r (keyOf m v) (a .below j y)));
+    below = λ j y. (let v = cellOf m q (getD l j 0) in rw (key-way m g v (k v (leads s h q j x y))) (by-key r (keyOf m v) (a .below j y)));
     some = λ o. elim (split r noWay) [
-      | inl u ↦ (let (j, y, e) = a .some u in let v = cellOf m q (getD l j 0) in (j, y, rw (key-way m g v (k v (leads q j x y)), ← e) refl))
+      | inl u ↦ (let (j, y, e) = a .some u in let v = cellOf m q (getD l j 0) in (j, y, rw (key-way m g v (k v (leads s h q j x y)), ← e) refl))
       | inr u ↦ absurd (omega (arith, by-none r u))
     ];
   }
 
-module _ {m l least : List ℕ} {n i : ℕ} (s : SoundTable m) (g : (j : ℕ) → getD m j 0 < byteValues) (h : HeldClasses m l n) (low : n ≤ i) (high : i ≤ classLimit)
-    (a : Lowered m l i least) where
+module _ {m l least : List ℕ} {n : ℕ} (s : SoundTable m) (g : (j : ℕ) → getD m j 0 < byteValues) (h : HeldClasses m l n) (a : Lowered m l n (statesOf m) least) where
   few : statesOf m < noWay
   few = omega (arith, s .few-states)
 
-  -- short and right keys are those of the ways home
-  keys-home : ShortKeys m (statesOf m) → RightKeys m least (statesOf m) → (q : ℕ) → q < statesOf m → Way (machine m) q (wayOf m q)
-  keys-home k r = rules-way (machine m) (sound-closed m s) (wayOf m) few (λ q x.
-      right-rule h low high (least-way s g h high k x (a .each q x))
-      (key-way m g q (k q x) ∙ right-keys (machine m .accepts q) (keyOf m q) (getD least q 0) (k q x) (least-short s g h high k x (a .each q x)) .0 (r q x)))
+  -- ---- right keys are short
+
+  module _ (r : RightKeys m least (statesOf m)) where
+    -- each is 0, or none, or 256 more than another
+    key-down : (q : ℕ) → q < statesOf m → (keyOf m q ≡ 0) ⊎ (keyOf m q ≡ noWay) ⊎ ((v : ℕ) × (v < statesOf m) × (keyOf m v < keys) × (keyOf m q ≡ keyOf m v + byteValues))
+    key-down q x = elim (right-key-cases (machine m .accepts q) (getD least q 0)) [
+      | inl e ↦ inl (r q x ∙ e)
+      | inr (inl e) ↦ inr (inl (r q x ∙ e))
+      | inr (inr (o, e)) ↦ (let (j, y, f) = a .each q x .some (omega arith) in inr (inr (cellOf m q (getD l j 0), leads s h q j x y, omega arith, omega (arith, r q x))))
+    ]
+
+    -- so it is a multiple of 256, if it is not none
+    key-whole : (d q : ℕ) → q < statesOf m → keyOf m q < d → (keyOf m q ≡ noWay) ⊎ (keyOf m q % byteValues ≡ 0)
+    key-whole zero q x o = absurd (omega arith)
+    key-whole (suc d) q x o = elim (key-down q x) [
+      | inl e ↦ inr (omega arith)
+      | inr (inl e) ↦ inl e
+      | inr (inr (v, y, u, e)) ↦ elim (key-whole d v y (omega arith)) [ inl z ↦ absurd (omega arith) | inr z ↦ inr (omega arith) ]
+    ]
+
+    -- with each multiple there is that before it
+    whole-down : (d q : ℕ) → q < statesOf m → keyOf m q ≡ suc d * byteValues → (v : ℕ) × (v < statesOf m) × (keyOf m v ≡ d * byteValues)
+    whole-down d q x o = elim (key-down q x) [
+      | inl e ↦ absurd (omega arith)
+      | inr (inl e) ↦ absurd (omega arith)
+      | inr (inr (v, y, u, e)) ↦ (v, y, omega arith)
+    ]
+
+    -- so its way is below the number of states
+    right-short : (q : ℕ) → q < statesOf m → Short (keyOf m q)
+    right-short q x = elim (key-whole (suc (keyOf m q)) q x (omega arith)) [
+      | inl e ↦ inl e
+      | inr e ↦ inr (omega (arith, s .few-states, descent (λ d v. keyOf m v ≡ d * byteValues) (statesOf m) whole-down (λ d b v y z. omega arith) (keyOf m q / byteValues) q x (omega arith)), e)
+    ]
+
+  -- ---- right keys are those of the ways home, and these have right keys
+
+  keys-home : RightKeys m least (statesOf m) → (q : ℕ) → q < statesOf m → Way (machine m) q (wayOf m q)
+  keys-home r =
+      let k = right-short r in
+      rules-way (machine m) (sound-closed m s) (wayOf m) few (λ q x.
+      right-rule h (least-way s g h k x (a .each q x))
+      (key-way m g q (k q x) ∙ right-keys (machine m .accepts q) (keyOf m q) (getD least q 0) (k q x) (least-short s g h k x (a .each q x)) .0 (r q x)))
 
   -- a way home is below the number of states, or none
-  home-short : SoundWays m → ShortKeys m (statesOf m)
+  home-short : SoundWays m → (q : ℕ) → q < statesOf m → Short (keyOf m q)
   home-short w q x = let b = w .beside q x in way-key m q (b .way) (b .high) (b .low) (go (b .right))
     where
       go : {d : ℕ} → Way (machine m) q d → (d < stateLimit) ⊎ (d ≡ noWay)
@@ -121,22 +158,22 @@ module _ {m l least : List ℕ} {n i : ℕ} (s : SoundTable m) (g : (j : ℕ) �
   -- and has its key from the least one
   home-right : SoundWays m → RightKeys m least (statesOf m)
   home-right w q x = let k = home-short w in
-      right-keys (machine m .accepts q) (keyOf m q) (getD least q 0) (k q x) (least-short s g h high k x (a .each q x)) .1
+      right-keys (machine m .accepts q) (keyOf m q) (getD least q 0) (k q x) (least-short s g h k x (a .each q x)) .1
       (sym (key-way m g q (k q x))
-      ∙ rule-right h low high (least-way s g h high k x (a .each q x)) (way-rules (machine m) (sound-closed m s) (wayOf m) few (ways-kept w) q x))
+      ∙ rule-right h (least-way s g h k x (a .each q x)) (way-rules (machine m) (sound-closed m s) (wayOf m) few (ways-kept w) q x))
 
   -- with what is unused, they decide
-  pub ways-judged : {t : Bool} → Decides t ((ShortKeys m (statesOf m) × RightKeys m least (statesOf m)) × Below m (waysAt + statesOf m * 2) roomBytes 1) → Decides t (SoundWays m)
+  pub ways-judged : {t : Bool} → Decides t (RightKeys m least (statesOf m) × Below m (waysAt + statesOf m * 2) roomBytes 1) → Decides t (SoundWays m)
   ways-judged d = record {
-    yes = λ e. (let ((k, r), o) = d .yes e in
+    yes = λ e. (let (r, o) = d .yes e in
         record {
           beside = λ q x. record {
             way = wayOf m q;
-            right = keys-home k r q x;
+            right = keys-home r q x;
             high = omega (arith, g (waysAt + q * 2 + 1));
             low = omega (arith, g (waysAt + q * 2 + 1));
           };
           ways-off = o;
         });
-    no = λ e w. d .no e ((home-short w, home-right w), w .ways-off);
+    no = λ e w. d .no e (home-right w, w .ways-off);
   }

@@ -1,22 +1,35 @@
 -- Numbers that keep the rule at every state are the ways home, and the ways home keep it. For a number d below 65,535 there is a string of d bytes, by the states
 -- with d - 1, d - 2, .. 0; these are different states, so d is below the number of states, and one more is never 65,535.
+--   descent: where each number above 0 comes with a state of the number before it, numbers are below the number of states
 --   rules-way, way-rules: numbers that keep it everywhere are the ways home, and these keep it
 --   fewest-few: a way home has fewer bytes than there are states
 --   way-none: a way home is 65,535 exactly if no string leads to acceptance
 use Prim.Native.Nat.{ℕ, zero, suc, _≤_, _<_}
-use mathlib.Core.Path.{_≡_, refl, sym, ap, _∙_}
-use mathlib.Core.Bool.{Bool, true, false, false≢true}
-use mathlib.Core.Logic.{_⊎_, inl, inr, _↔_}
+use mathlib.Core.Path.{_≡_, refl, sym, _∙_}
+use mathlib.Core.Bool.{true, false, false≢true}
+use mathlib.Core.Logic.{inl, inr, _↔_}
 use mathlib.Core.List.{List, [], _∷_}
 use native.Mathlib.Omega.{arith}
 use lib.ListN.{length}
 use Rattle.scope.specs.Limits.{byteValues, noWay}
-use Rattle.scope.specs.Machines.Machine.{Machine, run, Closed}
+use Rattle.scope.specs.Machines.Machine.{Machine, Closed}
 use Rattle.scope.specs.Machines.Ways.{Home, Fewest, Way, fewest, none}
 use Rattle.scope.proofs.Counting.Tests.{which, split}
 use Rattle.scope.proofs.Counting.Hole.{pigeon}
 use Rattle.scope.proofs.Machines.Ways.{way-one}
 use Rattle.way_rules.specs.Rule.{Rule}
+
+-- R i v: the state v has the number i. From a number down to 0 there are that many different states, so it is below their number.
+pub descent : (R : ℕ → ℕ → Type 0) (n : ℕ) → ((d q : ℕ) → q < n → R (suc d) q → (v : ℕ) × (v < n) × R d v) → ((i j v : ℕ) → R i v → R j v → i ≡ j)
+    → (d q : ℕ) → q < n → R d q → d < n
+descent R n down one d q h x = pigeon R (suc d) n (λ i k. each d q h x i (omega arith)) one
+  where
+    each : (d q : ℕ) → q < n → R d q → (i : ℕ) → i ≤ d → (v : ℕ) × (v < n) × R i v
+    each zero q h x i k = let e : i ≡ 0 = omega arith in rw e (q, h, x)
+    each (suc d) q h x i k = elim (split i (suc d)) [
+      | inl m ↦ (let (v, l, y) = down d q h x in each d v l y i (omega arith))
+      | inr m ↦ (let e : i ≡ suc d = omega arith in rw e (q, h, x))
+    ]
 
 home-here : (M : Machine) (q : ℕ) → M .accepts q ≡ true → Home M q []
 home-here M q a = record { bytes = tt; accepted = a }
@@ -49,17 +62,9 @@ module _ (M : Machine) (c : Closed M) where
         let (w, y, z) = string d (M .next q b) (c .inside q b h k) x (omega arith) in
         (b ∷ w, home-more b k y, omega (arith, z))
 
-    -- and a state for each number up to it
-    state : (d q : ℕ) → q < M .states → f q ≡ d → d < noWay → (i : ℕ) → i ≤ d → (v : ℕ) × (v < M .states) × (f v ≡ i)
-    state zero q h e l i k = (q, h, omega arith)
-    state (suc d) q h e l i k = elim (split i (suc d)) [
-      | inl m ↦ (let (b, n, x) = down q d h e l in state d (M .next q b) (c .inside q b h n) x (omega arith) i (omega arith))
-      | inr m ↦ (q, h, omega arith)
-    ]
-
-    -- hence it is below the number of states
+    -- and it is below the number of states
     below : (q : ℕ) → q < M .states → f q < noWay → f q < M .states
-    below q h l = pigeon (λ i v. f v ≡ i) (suc (f q)) (M .states) (λ i k. state (f q) q h refl l i (omega arith)) (λ i j v x y. sym x ∙ y)
+    below q h l = descent (λ d v. (f v ≡ d) × (d < noWay)) (M .states) (λ d v k x. let (b, n, y) = down v d k (x .0) (x .1) in (M .next v b, c .inside v b k n, (y, omega (arith, x .1)))) (λ i j v x y. sym (x .0) ∙ y .0) (f q) q h (refl, l)
 
     -- a state from which a string leads to acceptance has one, of at most as many bytes
     found : (w : List ℕ) (q : ℕ) → q < M .states → Home M q w → (f q < noWay) × (f q ≤ length w)
@@ -82,8 +87,8 @@ module _ (M : Machine) (c : Closed M) where
   -- ---- ways home
 
   -- the state to which the first byte of a shortest string leads needs one byte fewer
-  fewest-down : (q d : ℕ) → q < M .states → Fewest M q (suc d) → (v : ℕ) × (v < M .states) × Fewest M v d
-  fewest-down q d h x = go (x .word) (x .home) (x .long)
+  fewest-down : (d q : ℕ) → q < M .states → Fewest M q (suc d) → (v : ℕ) × (v < M .states) × Fewest M v d
+  fewest-down d q h x = go (x .word) (x .home) (x .long)
     where
       go : (w : List ℕ) → Home M q w → length w ≡ suc d → (v : ℕ) × (v < M .states) × Fewest M v d
       go [] y e = absurd (omega arith)
@@ -98,17 +103,9 @@ module _ (M : Machine) (c : Closed M) where
         },
       )
 
-  fewest-states : (d q : ℕ) → q < M .states → Fewest M q d → (i : ℕ) → i ≤ d → (v : ℕ) × (v < M .states) × Fewest M v i
-  fewest-states zero q h x i k = let e : i ≡ 0 = omega arith in rw e (q, h, x)
-  fewest-states (suc d) q h x i k = elim (split i (suc d)) [
-    | inl m ↦ (let (v, n, y) = fewest-down q d h x in fewest-states d v n y i (omega arith))
-    | inr m ↦ (let e : i ≡ suc d = omega arith in rw e (q, h, x))
-  ]
-
   -- fewer bytes than there are states
   pub fewest-few : (q d : ℕ) → q < M .states → Fewest M q d → d < M .states
-  fewest-few q d h x =
-      pigeon (λ i v. Fewest M v i) (suc d) (M .states) (λ i k. fewest-states d q h x i (omega arith)) (λ i j v y z. way-one (fewest y) (fewest z))
+  fewest-few q d = descent (λ i v. Fewest M v i) (M .states) fewest-down (λ i j v y z. way-one (fewest y) (fewest z)) d q
 
   -- a way home below 65,535 is that of a string
   way-fewest : {q d : ℕ} → d < noWay → Way M q d → Fewest M q d

@@ -115,7 +115,7 @@ module _ {m w₀ w l : List ℕ} {moved : Bool} {n r q : ℕ} (lt : 0 < q) (c : 
     most = p .most;
     less = p .less;
     level = λ e i h k b g. elim (split i q) [
-      | inl x ↦ (let z : i ≡ q - 1 = omega arith in rw z (omega (arith, least-all c (omega arith) (c .few) f b g)))
+      | inl x ↦ (let z : i ≡ q - 1 = omega arith in rw z (omega (arith, least-all c f b g)))
       | inr x ↦ p .level e i h x b g
     ];
   }
@@ -125,7 +125,7 @@ module _ {m w₀ w l : List ℕ} {moved : Bool} {n r q : ℕ} (lt : 0 < q) (c : 
   sweep-lowers s gt = record {
     few = omega (arith, p .few);
     sinking = sinking-lower (q - 1) (r + 1) s here (omega arith) (λ a. absurd (omega (arith, p .sinking .here (q - 1) here a)))
-        (λ a. let (b, k, e) = least-one c (omega arith) (c .few) f (omega (arith, p .sinking .most (q - 1) here)) in (b, k, omega arith)) (p .sinking);
+        (λ a. let (b, k, e) = least-one c f (omega (arith, p .sinking .most (q - 1) here)) in (b, k, omega arith)) (p .sinking);
     most = omega (arith, falls);
     less = λ e. falls;
     level = λ e. absurd (true≢false e);

@@ -89,9 +89,10 @@ fn ways_home(room: &[u8]) -> [u16; Machine::STATES]
     requires { ⌜ SoundTable (now room) ⌝ }
     ensures { λ r. ⌜ WaysHome (now (room .entry)) r ⌝ }
 {
-    let classes = ways::held(room);
+    let mut list: [u8; Machine::CLASSES] = [0; Machine::CLASSES];
+    let count = ways::held(room, &mut list);
     let mut ways = first_ways(room);
-    while sweep(room, &classes.list, classes.count, &mut ways) {}
+    while sweep(room, &list, count, &mut ways) {}
     ways
 }
 

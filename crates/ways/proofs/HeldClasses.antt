@@ -1,17 +1,17 @@
--- The classes that some byte has, found one by one: none of those below the class is missing, and every element of the list is such a class.
+-- The classes that some byte has, found one by one: none of those below the class is missing, and all that are listed are such classes.
 --   occurs-none, occurs-more, occurs-not: no element; one more that is the class, or is not
+--   blockAt m t: where the block begins that is tried after t others, if the first is `from`
 --   NoBlock, blocks-none, blocks-more, blocks-here, blocks-all: blocks without the class; none; one more without it, or with it; no block is left
---   found-later: a class that is found from a later block on is found
 --   HeldBelow m l n c: the list of the classes below c; held-none, held-skip, held-more, held-all: none; one more that no byte has, or that some byte has; all
---   held-below: such a class is below k
-use Prim.Native.Nat.{ℕ, _+_, _-_, _*_, _≤_, _<_}
-use mathlib.Core.Path.{_≡_, refl, sym, _∙_}
+--   held-below, held-some: such a class is below k; there is one
+use Prim.Native.Nat.{ℕ, _+_, _-_, _*_, _/_, _%_, _≤_, _<_}
+use mathlib.Core.Path.{_≡_, sym, _∙_}
 use mathlib.Core.Bool.{Bool, true, false}
 use mathlib.Core.Logic.{inl, inr}
 use mathlib.Core.List.{List}
 use native.Mathlib.Omega.{arith}
 use native.Mathlib.Decide.{ℕ-discrete}
-use lib.ListN.{length, getD, set, length-set, replicate, length-replicate, getD-replicate}
+use lib.ListN.{length, getD, set, length-set}
 use lib.Seq.{getD-set-same, getD-set-other}
 use Rattle.scope.specs.Limits.{byteValues, classLimit, classesAt, marksAt}
 use Rattle.scope.specs.Machines.Room.{classesOf, classOf, Below, SoundTable}
@@ -40,61 +40,46 @@ module _ {m : List ℕ} {from i c : ℕ} {b : Bool} (d : Decides b (Occurs m fro
 
 -- ---- block by block
 
--- no byte of the blocks from `from` up to `at` has the class
-pub record NoBlock (m : List ℕ) (from at c : ℕ) : Type 0 where
-  pub inside : at ≤ blocks
-  pub none : Occurs m (classesAt + from * block) (classesAt + at * block) c → ⊥
+-- where the block begins that is tried after t others, the first being `from`
+abbrev pub blockAt : ℕ → ℕ → ℕ
+blockAt from t = classesAt + (from + t) % blocks * block
 
-pub blocks-none : (m : List ℕ) (from c : ℕ) → from ≤ blocks → NoBlock m from from c
-blocks-none m from c h = record { inside = h; none = λ a. omega (arith, a .high, a .low) }
+-- no byte of the first t blocks has the class
+abbrev pub NoBlock : List ℕ → ℕ → ℕ → ℕ → Type 0
+NoBlock m from t c = (s : ℕ) → s < t → Occurs m (blockAt from s) (blockAt from s + block) c → ⊥
 
-module _ {m : List ℕ} {from at c : ℕ} (n : NoBlock m from at c) where
+module _ {m : List ℕ} {c : ℕ} (from t : ℕ) where
   -- one block more without it
-  pub blocks-more : at < blocks → (Occurs m (classesAt + at * block) (classesAt + at * block + block) c → ⊥) → NoBlock m from (at + 1) c
-  blocks-more h o = record {
-    inside = omega arith;
-    none = λ a. elim (split (a .place) (classesAt + at * block)) [
-      | inl k ↦ n .none (record { place = a .place; high = k; low = a .low; is = a .is })
-      | inr k ↦ o (record { place = a .place; high = omega (arith, a .high); low = k; is = a .is })
-    ];
-  }
+  pub blocks-more : NoBlock m from t c → (Occurs m (blockAt from t) (blockAt from t + block) c → ⊥) → NoBlock m from (t + 1) c
+  blocks-more n o s h = elim (split s t) [ inl k ↦ n s k | inr k ↦ (let e : s ≡ t = omega arith in rw e o) ]
 
   -- or with it
-  pub blocks-here : at < blocks → Occurs m (classesAt + at * block) (classesAt + at * block + block) c → BlockFound m from c at
-  blocks-here h a = record {
-    inside = n .inside;
+  pub blocks-here : Occurs m (blockAt from t) (blockAt from t + block) c → BlockFound m c ((from + t) % blocks)
+  blocks-here a = record {
+    inside = omega arith;
     found = λ l. record { place = a .place; high = omega (arith, a .high); low = omega (arith, a .low); is = a .is };
     none = λ l. absurd (omega arith);
   }
 
-  -- no block is left
-  pub blocks-all : blocks ≤ at → BlockFound m from c at
-  blocks-all h = record {
-    inside = n .inside;
+  -- no block is left: each stands as far behind `from` as it does
+  pub blocks-all : NoBlock m from t c → blocks ≤ t → BlockFound m c blocks
+  blocks-all n h = record {
+    inside = omega arith;
     found = λ l. absurd (omega arith);
-    none = λ l a. n .none (record { place = a .place; high = omega (arith, a .high); low = a .low; is = a .is });
+    none = λ l a. (let p = (a .place - classesAt) / block in let s = (p + (blocks - from % blocks)) % blocks in
+        n s (omega arith) (record { place = a .place; high = omega (arith, a .high, a .low); low = omega (arith, a .high, a .low); is = a .is }));
   }
-
--- a class that is found from a later block on is found
-pub found-later : {m : List ℕ} {from c r : ℕ} → BlockFound m from c r → r < blocks → BlockFound m 0 c r
-found-later f h = record { inside = f .inside; found = f .found; none = λ l. absurd (omega arith) }
 
 -- ---- the list
 
 pub record HeldBelow (m l : List ℕ) (n c : ℕ) : Type 0 where
   pub size : length l ≡ classLimit
   pub few : n ≤ c
-  pub byte : (i : ℕ) → i < classLimit → (b : ℕ) × (b < byteValues) × (classOf m b ≡ getD l i 0)
+  pub byte : (i : ℕ) → i < n → (b : ℕ) × (b < byteValues) × (classOf m b ≡ getD l i 0)
   pub all : (b : ℕ) → b < byteValues → classOf m b < c → (i : ℕ) × (i < n) × (getD l i 0 ≡ classOf m b)
 
--- the class of the byte 0, again and again
-pub held-none : (m : List ℕ) → HeldBelow m (replicate classLimit (getD m classesAt 0)) 0 0
-held-none m = record {
-  size = length-replicate classLimit (getD m classesAt 0);
-  few = omega arith;
-  byte = λ i h. (0, omega arith, sym (getD-replicate classLimit i (getD m classesAt 0) 0 h));
-  all = λ b h k. absurd (omega arith);
-}
+pub held-none : (m l : List ℕ) → length l ≡ classLimit → HeldBelow m l 0 0
+held-none m l e = record { size = e; few = omega arith; byte = λ i h. absurd (omega arith); all = λ b h k. absurd (omega arith) }
 
 module _ {m l : List ℕ} {n c : ℕ} (r : HeldBelow m l n c) where
   -- no byte has the class
@@ -116,7 +101,7 @@ module _ {m l : List ℕ} {n c : ℕ} (r : HeldBelow m l n c) where
     few = omega (arith, r .few);
     byte = λ i g. elim (ℕ-discrete i n) [
       | yes e ↦ (a .place - classesAt, omega (arith, a .high, a .low), here ∙ sym (rw e last))
-      | no e ↦ (let (b, k, z) = r .byte i g in (b, k, z ∙ sym (other i e)))
+      | no e ↦ (let (b, k, z) = r .byte i (omega arith) in (b, k, z ∙ sym (other i e)))
     ];
     all = λ b g k. elim (split (classOf m b) c) [
       | inl x ↦ (let (i, y, z) = r .all b g x in (i, omega arith, other i (λ e. omega arith) ∙ z))
@@ -143,5 +128,9 @@ module _ {m l : List ℕ} {n c : ℕ} (r : HeldBelow m l n c) where
   }
 
 -- such a class is below k
-pub held-below : {m l : List ℕ} {n : ℕ} → SoundTable m → HeldClasses m l n → Below l 0 classLimit (classesOf m)
+pub held-below : {m l : List ℕ} {n : ℕ} → SoundTable m → HeldClasses m l n → Below l 0 n (classesOf m)
 held-below s h i k g = let (b, x, e) = h .byte i k in rw (← e) (s .classes (classesAt + b) (omega arith) (omega arith))
+
+-- there is one: that of the byte 0
+pub held-some : {m l : List ℕ} {n : ℕ} → HeldClasses m l n → 0 < n
+held-some h = let (i, k, e) = h .all 0 (omega arith) in omega arith

@@ -3,13 +3,13 @@
 --   least-all, least-one: it is at most the number of each state to which a byte leads, and that of one of them
 --   right-rule, rule-right: a state keeps the rule exactly if it has what the least of those that bytes lead to gives it
 use Prim.Native.Nat.{ℕ, suc, _+_, _≤_, _<_, min}
-use mathlib.Core.Path.{_≡_, refl, sym, ap, _∙_}
+use mathlib.Core.Path.{_≡_, sym, _∙_}
 use mathlib.Core.Bool.{true, false, false≢true}
 use mathlib.Core.Logic.{inl, inr}
 use mathlib.Core.List.{List}
 use native.Mathlib.Omega.{arith}
 use lib.ListN.{getD}
-use Rattle.scope.specs.Limits.{byteValues, classLimit, noWay}
+use Rattle.scope.specs.Limits.{byteValues, noWay}
 use Rattle.scope.specs.Machines.Room.{cellOf, nextOf, machine}
 use Rattle.scope.proofs.Counting.Tests.{which, split, below, not-below}
 use Rattle.ways.specs.Held.{HeldClasses}
@@ -31,16 +31,16 @@ least-more {m} {f} {l} {i} {q} {r} s = record {
   ];
 }
 
-module _ {m l : List ℕ} {n i q r : ℕ} {f : ℕ → ℕ} (h : HeldClasses m l n) (low : n ≤ i) (high : i ≤ classLimit) (s : LeastOver m f l i q r) where
+module _ {m l : List ℕ} {n q r : ℕ} {f : ℕ → ℕ} (h : HeldClasses m l n) (s : LeastOver m f l n q r) where
   -- at most the number of each state to which a byte leads
   pub least-all : (b : ℕ) → b < byteValues → r ≤ f (nextOf m q b)
   unfolding nextOf
-  least-all b g = let (j, k, e) = h .all b g in rw (← e) (s .below j (omega arith))
+  least-all b g = let (j, k, e) = h .all b g in rw (← e) (s .below j k)
 
   -- and that of one of them, if it is below 65,535
   pub least-one : r < noWay → (b : ℕ) × (b < byteValues) × (r ≡ f (nextOf m q b))
   unfolding nextOf
-  least-one g = let (j, k, e) = s .some g in let (b, x, z) = h .byte j (omega arith) in (b, x, rw z e)
+  least-one g = let (j, k, e) = s .some g in let (b, x, z) = h .byte j k in (b, x, rw z e)
 
   -- what the least gives keeps the rule
   pub right-rule : f q ≡ rightWay (machine m .accepts q) r → Rule (machine m) f q

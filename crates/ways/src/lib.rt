@@ -1,9 +1,9 @@
 // What judging and writing ways home share: the classes of a room that some byte has, and the lesser of two ways.
 use scope::Machine;
 ghost use mathlib.Core.Path.{_≡_};
-ghost use Prim.Native.Nat.{_+_, _*_, _<_, _≤_, min};
+ghost use Prim.Native.Nat.{_+_, _≤_, min};
 ghost use lib.ListN.{length};
-ghost use Rattle.scope.specs.Limits.{classesAt, marksAt};
+ghost use Rattle.scope.specs.Limits.{classLimit, marksAt};
 ghost use Rattle.scope.specs.Machines.Room.{SoundTable};
 ghost use Rattle.buffers.specs.Stored.{Decides};
 ghost use Rattle.ways.specs.Held.{block, blocks, Occurs, BlockFound, HeldClasses};
@@ -29,47 +29,28 @@ fn is_among(room: &[u8], from: usize, class: u8) -> bool
     found
 }
 
-// The first block from `from` on with a byte that has the class; their number, if there is none.
-fn block_of(room: &[u8], from: usize, class: u8) -> usize
+// A block with a byte that has the class, from `from` on and then from the first; their number, if no byte has it.
+fn find(room: &[u8], from: usize, class: u8) -> usize
     requires { ⌜ (marksAt ≤ length (now room)) × (from ≤ blocks) ⌝ }
-    ensures { λ r. ⌜ BlockFound (now (room .entry)) from class r ⌝ }
+    ensures { λ r. ⌜ BlockFound (now (room .entry)) class r ⌝ }
 {
-    let mut at = from;
-    while at < BLOCKS {
+    let mut tried: usize = 0;
+    while tried < BLOCKS {
+        let at = (from + tried) % BLOCKS;
         if is_among(room, Machine::CLASSES_AT + at * BLOCK, class) {
             return at;
         }
-        at += 1;
+        tried += 1;
     }
-    at
+    BLOCKS
 }
 
-// A block with a byte that has the class, those from `from` on tried first; their number, if no byte has it.
-fn find(room: &[u8], from: usize, class: u8) -> usize
-    requires { ⌜ (marksAt ≤ length (now room)) × (from ≤ blocks) ⌝ }
-    ensures { λ r. ⌜ BlockFound (now (room .entry)) 0 class r ⌝ }
-{
-    let at = block_of(room, from, class);
-    if at < BLOCKS {
-        return at;
-    }
-    block_of(room, 0, class)
-}
-
-// The first `count` are the classes that some byte has; the others in the list are such a class again.
-pub struct Classes {
-    pub list: [u8; Machine::CLASSES],
-    pub count: usize,
-}
-
-// The classes that some byte has. Mostly each begins after the one before it.
-pub fn held(room: &[u8]) -> Classes
-    requires { ⌜ SoundTable (now room) ⌝ }
-    ensures { λ r. ⌜ HeldClasses (now (room .entry)) (r .list) (r .count) ⌝ }
+// Writes the classes that some byte has to the front of the list: their number. A class mostly begins where the one before it was found, or later.
+pub fn held(room: &[u8], list: &mut [u8; Machine::CLASSES]) -> usize
+    requires { ⌜ SoundTable (now room) × (length (now list) ≡ classLimit) ⌝ }
+    ensures { λ r. ⌜ HeldClasses (now (room .entry)) (now (list .exit)) r ⌝ }
 {
     let k = room::head(room).classes;
-    let first = room[Machine::CLASSES_AT];
-    let mut list = [first; Machine::CLASSES];
     let mut count: usize = 0;
     let mut at: usize = 0;
     let mut class: usize = 0;
@@ -82,10 +63,7 @@ pub fn held(room: &[u8]) -> Classes
         }
         class += 1;
     }
-    Classes {
-        list: list,
-        count: count,
-    }
+    count
 }
 
 // The lesser of two ways.

@@ -14,12 +14,12 @@ use std::os::raw::{c_int, c_void};
 const SEEN: [(&str, usize, usize); 8] = [
     ("compile", 8_952, 9_369),
     ("minimise", 7_464, 8_000),
-    ("match", 592, 594),
-    ("compare", 5_480, 8_000),
-    ("pack", 7_432, 8_000),
+    ("match", 544, 594),
+    ("compare", 5_432, 8_000),
+    ("pack", 7_416, 8_000),
     ("unpack", 7_432, 8_000),
-    ("desk_open", 576, 1_024),
-    ("desk_key", 816, 1_024),
+    ("desk_open", 528, 1_024),
+    ("desk_key", 768, 1_024),
 ];
 
 /// The part of a stack that is painted at once.

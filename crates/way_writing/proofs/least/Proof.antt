@@ -20,7 +20,7 @@ loop-holds : tie.Need-loop-holds Inv-loop μ-loop
 loop-holds c = (search needs, least-none _ _ _ _)
 
 next-way-requires : tie.Need-next-way-requires Inv-loop μ-loop
-next-way-requires c κs = let s = c .before .before .before .before .before .pre in ((s .0, c .before .before .before .head .ensures .1), (s .1 .1, held-below (s .0) (s .1 .0) (c .before .before .loop .i) (omega (arith, s .1 .0 .few, c .before .loop-test .taken)) (omega arith)))
+next-way-requires c κs = let s = c .before .before .before .before .before .pre in ((s .0, c .before .before .before .head .ensures .1), (s .1 .1, held-below (s .0) (s .1 .0) (c .before .before .loop .i) (c .before .loop-test .taken) (omega arith)))
 
 loop-again : tie.Need-loop-again Inv-loop μ-loop
 loop-again c = (search needs, rw (c .lesser .ensures, c .before .next-way .ensures) (least-more (c .before .before .before .before .loop .inv .1)))

@@ -10,13 +10,13 @@ use Rattle.ways.proofs.held.Statement.{statement}
 use Rattle.ways.proofs.held.Tie as tie
 
 abbrev Inv-loop : tie.InvT-loop
-Inv-loop room k first list₀ count₀ at₀ class₀ list count at class = (at ≤ blocks) × (class ≤ classesOf room) × HeldBelow room list count class
+Inv-loop room list₀ k count₀ at₀ class₀ list count at class = (at ≤ blocks) × (class ≤ classesOf room) × HeldBelow room list count class
 
 abbrev μ-loop : tie.MeasureT-loop
-μ-loop room k first list₀ count₀ at₀ class₀ list count at class = classesOf room - class
+μ-loop room list₀ k count₀ at₀ class₀ list count at class = classesOf room - class
 
 loop-holds : tie.Need-loop-holds Inv-loop μ-loop
-loop-holds c = (search needs, search needs, held-none _)
+loop-holds c = (search needs, search needs, held-none _ _ (c .before .before .pre .1))
 
 loop-again : tie.Need-loop-again Inv-loop μ-loop
 loop-again c =
@@ -29,7 +29,7 @@ loop-again c =
     )
 
 returns : tie.Need-returns Inv-loop μ-loop
-returns c = held-all (c .before .loop .inv .2) (c .before .before .before .before .before .pre) (search needs)
+returns c = held-all (c .before .loop .inv .2) (c .before .before .before .before .pre .0) (search needs)
 
 pub held-spec : {M : Type 1} → statement M
 held-spec =
@@ -38,7 +38,6 @@ held-spec =
     Inv-loop
     μ-loop
     (λ c κs. search needs)
-    (λ c. search needs)
     loop-holds
     (λ c. search needs)
     (λ c κs. search needs)
