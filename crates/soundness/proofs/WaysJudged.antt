@@ -1,7 +1,7 @@
 -- Ways home are right exactly if each state has what the least of those that bytes lead to gives it.
 --   least-first, least-next, least-four: the least over one class; lowered by one more; by four
 --   lowered-none, lowered-more: no state is lowered, one more
---   Left m l i q least: the states from q on are not lowered yet; left-none, left-more: all, one fewer
+--   Unlowered m l i q least: the states from q on are not lowered yet; unlowered-more: one fewer
 --   ways-judged: what is tested decides whether the ways home are sound
 use Prim.Native.Nat.{ℕ, zero, suc, _+_, _*_, _/_, _%_, _≤_, _<_, min}
 use mathlib.Core.Path.{_≡_, refl, sym, _∙_}
@@ -67,11 +67,11 @@ lowered-more {m} {l} {i} {q} {least} r a h s = record {
   ];
 }
 
-abbrev pub Left : List ℕ → List ℕ → ℕ → ℕ → List ℕ → Type 0
-Left m l i q least = (p : ℕ) → p < statesOf m → q ≤ p → LeastOver m (keyOf m) l i p (getD least p 0)
+abbrev pub Unlowered : List ℕ → List ℕ → ℕ → ℕ → List ℕ → Type 0
+Unlowered m l i q least = (p : ℕ) → p < statesOf m → q ≤ p → LeastOver m (keyOf m) l i p (getD least p 0)
 
-pub left-more : (m l : List ℕ) (i q : ℕ) (least : List ℕ) (r : ℕ) → Left m l i q least → Left m l i (q + 1) (set least q r)
-left-more m l i q least r a p h k = rw (other least q p r (λ e. omega arith)) (a p h (omega arith))
+pub unlowered-more : (m l : List ℕ) (i q : ℕ) (least : List ℕ) (r : ℕ) → Unlowered m l i q least → Unlowered m l i (q + 1) (set least q r)
+unlowered-more m l i q least r a p h k = rw (other least q p r (λ e. omega arith)) (a p h (omega arith))
 
 -- ---- what is right
 
