@@ -168,7 +168,7 @@ fn are_ways(room: &[u8]) -> bool
     are_right(room, n, &least) && room::are_below(room, Machine::WAYS_AT + n * 2, Machine::ROOM, 1)
 }
 
-// Whether a room is sound. The tail of a longer one is not read. A part of known length is passed on in a register; the room itself would be copied and waited for.
+// Whether a room is sound. The tail of a longer one is not read. A part of known length is passed on in a register; the room as it came would be copied in memory.
 pub fn is_sound(room: &[u8]) -> bool
     ensures { λ r. ⌜ Decides r (Sound (now (room .entry))) ⌝ }
 {
