@@ -54,15 +54,11 @@ least-four {m} {l} {f} {i} {q} {r} x y z s a e g h k =
 pub lowered-none : {m l : List ℕ} {i : ℕ} {least : List ℕ} → length least ≡ stateLimit → Lowered m l i 0 least
 lowered-none e = record { size = e; each = λ p h. absurd (omega arith) }
 
--- a state that is not lowered keeps what it has
-other : (least : List ℕ) (q p r : ℕ) → (p ≡ q → ⊥) → getD (set least q r) p 0 ≡ getD least p 0
-other least q p r e = getD-set-other least q p r 0 e
-
 pub lowered-more : {m l : List ℕ} {i q : ℕ} {least : List ℕ} (r : ℕ) → Lowered m l i q least → q < stateLimit → LeastOver m (keyOf m) l i q r → Lowered m l i (q + 1) (set least q r)
 lowered-more {m} {l} {i} {q} {least} r a h s = record {
   size = length-set least q r ∙ a .size;
   each = λ p k. elim (split p q) [
-    | inl g ↦ rw (other least q p r (λ e. omega arith)) (a .each p g)
+    | inl g ↦ rw (getD-set-other least q p r 0 (λ e. omega arith)) (a .each p g)
     | inr g ↦ (let e : p ≡ q = omega arith in rw (e, getD-set-same least q r 0 (omega (arith, a .size))) s)
   ];
 }
@@ -71,7 +67,7 @@ abbrev pub Unlowered : List ℕ → List ℕ → ℕ → ℕ → List ℕ → Ty
 Unlowered m l i q least = (p : ℕ) → p < statesOf m → q ≤ p → LeastOver m (keyOf m) l i p (getD least p 0)
 
 pub unlowered-more : (m l : List ℕ) (i q : ℕ) (least : List ℕ) (r : ℕ) → Unlowered m l i q least → Unlowered m l i (q + 1) (set least q r)
-unlowered-more m l i q least r a p h k = rw (other least q p r (λ e. omega arith)) (a p h (omega arith))
+unlowered-more m l i q least r a p h k = rw (getD-set-other least q p r 0 (λ e. omega arith)) (a p h (omega arith))
 
 -- ---- what is right
 

@@ -1,7 +1,7 @@
 -- The classes that some byte has, found one by one: none of those below the class is missing, and all that are listed are such classes.
 --   occurs-none, occurs-more, occurs-not: no element; one more that is the class, or is not
---   blockAt m t: where the block begins that is tried after t others, if the first is `from`
---   NoBlock, blocks-none, blocks-more, blocks-here, blocks-all: blocks without the class; none; one more without it, or with it; no block is left
+--   blockAt from t: where the block begins that is tried after t others, the first being `from`
+--   NoBlock, blocks-more, blocks-here, blocks-all: blocks without the class; one more without it, or with it; no block is left
 --   HeldBelow m l n c: the list of the classes below c; held-none, held-skip, held-more, held-all: none; one more that no byte has, or that some byte has; all
 --   held-below, held-some: such a class is below k; there is one
 use Prim.Native.Nat.{ℕ, _+_, _-_, _*_, _/_, _%_, _≤_, _<_}
@@ -61,7 +61,7 @@ module _ {m : List ℕ} {c : ℕ} (from t : ℕ) where
     none = λ l. absurd (omega arith);
   }
 
-  -- no block is left: each stands as far behind `from` as it does
+  -- no block is left: each was tried
   pub blocks-all : NoBlock m from t c → blocks ≤ t → BlockFound m c blocks
   blocks-all n h = record {
     inside = omega arith;
