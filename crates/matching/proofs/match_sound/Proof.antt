@@ -1,7 +1,9 @@
 -- The last state says it: its mark, else its way home; where it has none, the place is looked for.
 use native.Mathlib.Omega.{arith}
 use borrow.Author.Needs.{needs}
+use Rattle.scope.specs.Machines.Room.{machine}
 use Rattle.scope.specs.Operations.Match.{accepted, dead, unfinished}
+use Rattle.matching.specs.Live.{Live}
 use Rattle.matching.proofs.Completable.{accepting, not-accepting, alive}
 use Rattle.matching.proofs.match_sound.Statement.{statement}
 use Rattle.matching.proofs.match_sound.Tie as tie
@@ -27,7 +29,7 @@ returns-2 : tie.Need-returns-2
 returns-2 c =
     let s = c .before .before .before .before .before .before .before in
     let q = c .before .before .before .before .last-state in
-    let live = c .before .is-live .ensures .yes (c .if2 .taken) in
+    let live : Live (machine (s .args .room .now)) (q .result) = c .before .is-live .ensures .yes (c .if2 .taken) in
     unfinished (s .pre) (alive _ (s .args .text .now) (λ i. omega (arith, c .before .before .before .before .before .shared-slice-known2 .given i)) (rw (q .ensures .0) at live))
     (not-accepting (s .args .room .now) (s .args .text .now) (q .ensures .0) (c .before .before .if1 .left))
 
