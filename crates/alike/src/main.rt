@@ -1,5 +1,7 @@
 // Compares two patterns: reads them as the two lines of its standard input, and prints what compiling each and comparing both answered. It only reads and
 // writes; the lines are taken by `take_lines`, and what is printed is the report's.
+#![tactic(auto)]
+
 ghost use Rattle.std.specs.Prelude.{◌≡◌, ◌+◌, length};
 ghost use Rattle.scope.specs.Limits.{pattern_limit};
 ghost use Rattle.alike.specs.Input.{Lines, Stopped};
@@ -13,7 +15,7 @@ const LINE: usize = scope::Machine::PATTERN + 1;
 const READS: usize = 18446744073709551615;
 
 // What was taken, how many bytes the last read gave, and how many reads there were.
-#[derive(Drop)]
+#[derive(Clone, Copy)]
 struct Reading {
     taking: Taking,
     got: usize,

@@ -1,11 +1,14 @@
 // What the program prints for two texts: both are compiled, their rooms compared, and the lines put together. A side that is refused leaves its room empty,
 // which comparing refuses; then nothing is printed but the lines of the sides.
+#![tactic(auto)]
+
 ghost use Rattle.std.specs.Prelude.{◌≤◌, length};
 ghost use Rattle.scope.specs.Operations.Buffers.{Lent};
 ghost use Rattle.scope.specs.Operations.Compare.{CompareLent};
 ghost use Rattle.put_lines.specs.Printing.{side_of};
 ghost use Rattle.alike_report.specs.Report.{Compiling, Puts, Reports};
 
+use put_lines::LINES;
 use put_lines::Side;
 use scope::Machine;
 
@@ -35,9 +38,9 @@ fn put(
     bytes: &mut [u8],
     words: &mut [u64],
 ) -> usize
-    requires* { do ⌜ ((← ⟦put_lines::LINES⟧) ≤ length out.old) × CompareLent left.now right.now word.old bytes.old words.old ⌝ }
+    requires { (LINES ≤ length out.old) × CompareLent left.now right.now word.old bytes.old words.old }
     ensures puts { Puts (side_of a) (side_of b) left.now right.now out.old out.new result }
-    ensures* result_bound { do ⌜ result ≤ (← (⟦put_lines::LINES⟧).entry) ⌝ }
+    ensures result_bound { result ≤ LINES }
 {
     let compared = compare::compare(left, right, word, bytes, words);
     let number = compared.number();
@@ -48,9 +51,9 @@ fn put(
 
 // Puts the program's lines for two texts at the start of `out`; answers how many bytes they are.
 pub fn report(left: &[u8], right: &[u8], out: &mut [u8]) -> usize
-    requires* { do ⌜ (← ⟦put_lines::LINES⟧) ≤ length out.old ⌝ }
+    requires { LINES ≤ length out.old }
     ensures reports { Reports left.now right.now out.old out.new result }
-    ensures* result_bound { do ⌜ result ≤ (← (⟦put_lines::LINES⟧).entry) ⌝ }
+    ensures result_bound { result ≤ LINES }
 {
     let mut bytes = [0u8; Machine::SCRATCH_BYTES];
     let mut words = [0u64; Machine::SCRATCH_WORDS];

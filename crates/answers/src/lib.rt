@@ -1,9 +1,11 @@
 // An enum for each kind of answer, with the numbers and values that contracts speak of.
+#![tactic(auto)]
+
 ghost use Rattle.std.specs.Prelude.{◌≡◌};
 ghost use Rattle.answers.specs.Numbers.{compiled_number, compiled_place, minimised_number, matched_number, matched_place, compared_number, compared_length, compared_rounds, packed_number, packed_length, unpacked_number};
 
 // What compiling answers.
-#[derive(Drop)]
+#[derive(Clone, Copy)]
 pub enum Compiled {
     Done,
     Room,
@@ -53,7 +55,7 @@ impl Compiled {
 }
 
 // What minimising answers.
-#[derive(Drop)]
+#[derive(Clone, Copy)]
 pub enum Minimised {
     Done,
     Room,
@@ -74,7 +76,7 @@ impl Minimised {
 }
 
 // What matching answers; Dead has its place.
-#[derive(Drop)]
+#[derive(Clone, Copy)]
 pub enum Matched {
     Accepted,
     Dead(usize),
@@ -112,7 +114,7 @@ impl Matched {
 }
 
 // What comparing answers: Same has the rounds, Separated the length and the rounds.
-#[derive(Drop)]
+#[derive(Clone, Copy)]
 pub enum Compared {
     Same(usize),
     Separated(usize, usize),
@@ -159,7 +161,7 @@ impl Compared {
 }
 
 // What packing answers: Done has the number of bytes.
-#[derive(Drop)]
+#[derive(Clone, Copy)]
 pub enum Packed {
     Done(usize),
     Room,
@@ -191,7 +193,7 @@ impl Packed {
 }
 
 // What unpacking answers.
-#[derive(Drop)]
+#[derive(Clone, Copy)]
 pub enum Unpacked {
     Done,
     Room,

@@ -1,5 +1,7 @@
 // The states: the parts of a room's states, numbered on first arrival, row by row, over the least byte of each kind. A byte of a kind leads where its least byte
 // leads, and that one is read before it, so no other byte can bring a new state.
+#![tactic(auto)]
+
 ghost use Rattle.std.specs.Prelude.{◌≡◌, ◌+◌, ◌*◌, ◌≤◌, ◌<◌, length};
 ghost use Rattle.scope.specs.Limits.{state_limit};
 ghost use Rattle.scope.specs.Machines.Room.{Below};

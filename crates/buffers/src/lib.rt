@@ -1,4 +1,6 @@
 // What every layer needs of a lent buffer: fill, copy, compare, the greatest byte, whether all are 0, the classes of a room; each with a contract that says every element.
+#![tactic(auto)]
+
 ghost use Rattle.std.specs.Prelude.{◌+◌, ◌-◌, ◌≤◌, length, get_or};
 ghost use Rattle.scope.specs.Limits.{classes_at, marks_at};
 ghost use Rattle.scope.specs.Operations.Buffers.{Written, Scratch, Lent, Cleared};

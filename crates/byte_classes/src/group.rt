@@ -11,7 +11,7 @@ use byte_runs::END_WORDS;
 use scope::Machine;
 
 // The class of each byte value, and how many classes there are.
-#[derive(Drop)]
+#[derive(Clone, Copy)]
 pub struct Groups {
     pub map: [u8; Machine::BYTES],
     pub answer: Counted,

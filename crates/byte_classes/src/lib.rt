@@ -1,10 +1,12 @@
 // From the byte sets of the positions of an expression to classes of byte values, each with its mask. One file a pass: over the runs of byte values
 // that go together, `group` gives each byte value its class, and `masks` each class its positions.
+#![tactic(auto)]
+
 pub mod group;
 pub mod masks;
 
 // How many there are, or that there are more than the limit.
-#[derive(Drop)]
+#[derive(Clone, Copy)]
 pub enum Counted {
     Few(usize),
     Many,

@@ -1,5 +1,7 @@
 // Runs of byte values: stretches that every position holds wholly or not at all. Neighbouring byte values that no position tells apart are split, and given
 // their masks, once. A run is known by its last byte, its end; the ends are kept as bits, 64 byte values a word.
+#![tactic(auto)]
+
 ghost use Rattle.std.specs.Prelude.{◌≡◌, true, ◌*◌, ◌<◌, ◌≤◌, ◌+◌, length};
 ghost use Rattle.scope.specs.Limits.{byte_values, position_limit};
 ghost use Rattle.sets.specs.Layout.{byte_set, bit_at};

@@ -1,4 +1,6 @@
 // The byte sets of all positions of a judged text, made in one pass from left to right.
+#![tactic(auto)]
+
 ghost use Rattle.std.specs.Prelude.{◌≡◌, ◌≤◌, length};
 ghost use Rattle.scope.specs.Limits.{pattern_limit};
 ghost use Rattle.sets.specs.Layout.{byte_sets};

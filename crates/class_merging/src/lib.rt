@@ -1,5 +1,7 @@
 // The classes: the kinds of bytes whose columns lead each state to the same state. The kinds come in the order of their least bytes, and a kind is compared with the
 // first of each class so far, so the classes are numbered by their smallest byte.
+#![tactic(auto)]
+
 ghost use Rattle.std.specs.Prelude.{◌≡◌, ◌≤◌, ◌<◌, length, get_or, replicate};
 ghost use Rattle.scope.specs.Limits.{byte_values};
 ghost use Rattle.scope.specs.Machines.Room.{classes_of, class_of, Below, SoundTable};

@@ -4,6 +4,8 @@
 // round after which the starts are not together says how long the string is that tells them apart, and it is spelled.
 //
 // Where both rooms hold one machine byte for byte, they are the same, and its states are refined once.
+#![tactic(auto)]
+
 ghost use Rattle.std.specs.Prelude.{◌≤◌, length};
 ghost use Rattle.answers.specs.Numbers.{compared_number, compared_length, compared_rounds};
 ghost use Rattle.scope.specs.Operations.Buffers.{TailKept};

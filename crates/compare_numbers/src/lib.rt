@@ -1,4 +1,6 @@
 // Comparing with its answer as numbers, for the C boundary.
+#![tactic(auto)]
+
 ghost use Rattle.scope.specs.Operations.Compare.{Compares};
 
 // Compares, returns the number of the answer, and writes its length and rounds.

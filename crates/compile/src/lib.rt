@@ -1,4 +1,6 @@
 // Compiling a pattern: the text is judged, read to its sets of positions, built into a machine in the scratch, and made smallest into the room.
+#![tactic(auto)]
+
 ghost use Rattle.answers.specs.Numbers.{compiled_number, compiled_place};
 ghost use Rattle.scope.specs.Operations.Buffers.{Scratch, Lent};
 ghost use Rattle.scope.specs.Operations.Compile.{Compiles};

@@ -1,4 +1,6 @@
 // Compiling with its answer as numbers, for the C boundary.
+#![tactic(auto)]
+
 ghost use Rattle.scope.specs.Operations.Compile.{Compiles};
 
 // Compiles, returns the number of the answer, and writes its place.

@@ -4,6 +4,8 @@
 // that the machines are sound, and that the form is one that they and some keys can give. Of the library the desk uses the contracts of matching and of the
 // test whether a room is sound, beside the helpers on slices, and not how they do it. A key costs one judgement of each room, one pass over each closed text,
 // and one match of the open field. The rules are those of `desk_rules`; `entry_form` judges a form, `standings` how its open field stands; `pressing` and `typing` do the keys.
+#![tactic(auto)]
+
 ghost use Rattle.desk_rules.specs.DeskAnswers.{opened_number, pressed_number};
 ghost use Rattle.desk_rules.specs.Open.{Opens};
 ghost use Rattle.desk_rules.specs.Press.{Presses};

@@ -1,4 +1,6 @@
 // The desk with its answers as numbers, for the C boundary.
+#![tactic(auto)]
+
 ghost use Rattle.desk_rules.specs.Open.{Opens};
 ghost use Rattle.desk_telling.specs.Pass.{Passes};
 ghost use Rattle.desk_rules.specs.Press.{Presses};

@@ -1,10 +1,12 @@
 // The rules of the entry desk: what is entered, what a key does to it and what it answers, the form that shows an entry, and the contracts of opening a form and of
 // a key. They stand in `specs`, over those of `entry_form`; here are the answers. That a form passes the test exactly if keys can give it is a theorem in `proofs`.
+#![tactic(auto)]
+
 ghost use Rattle.std.specs.Prelude.{◌≡◌};
 ghost use Rattle.desk_rules.specs.DeskAnswers.{opened_number, pressed_number};
 
 // What opening answers.
-#[derive(Drop)]
+#[derive(Clone, Copy)]
 pub enum Opened {
     Done,
     Fields,
@@ -27,7 +29,7 @@ impl Opened {
 }
 
 // What a key answers.
-#[derive(Drop)]
+#[derive(Clone, Copy)]
 pub enum Pressed {
     Done,
     Room,

@@ -1,5 +1,7 @@
 // A key at the desk that also tells what could have stood there: with DEAD BYTE the bytes are marked that the open field could have taken. The form is as it was then, so
 // these are the ones that its own text goes on with. Nothing is written with any other answer.
+#![tactic(auto)]
+
 ghost use Rattle.std.specs.Prelude.{◌≡◌};
 ghost use Rattle.scope.specs.Machines.Room.{machine};
 ghost use Rattle.buffers.specs.Stored.{Decides};

@@ -1,5 +1,7 @@
 // From the sets of positions of an expression to a sound room image whose states are the reached sets: `byte_runs` finds the runs of byte values, `byte_classes` gives their
 // classes and masks, `reach` finds the reached sets row by row, and `image` writes the room around them.
+#![tactic(auto)]
+
 ghost use Rattle.std.specs.Prelude.{◌≤◌};
 ghost use Rattle.scope.specs.Operations.Buffers.{Scratch};
 ghost use Rattle.scope.specs.Limits.{position_limit};
@@ -13,7 +15,7 @@ use sets::layout::IMAGE_AT;
 mod image;
 
 // What building answers.
-#[derive(Drop)]
+#[derive(Clone, Copy)]
 pub enum Built {
     Done,
     Classes,

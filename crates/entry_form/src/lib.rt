@@ -3,6 +3,8 @@
 // A form is a lent buffer, and the machine rooms are lent end to end with it. A form is judged a field at a time: `test` asks what is asked of every form, of closed
 // fields and of those that are not open yet; how the open field stands is asked in `standings`. Texts are judged by the contract of matching, rooms by that of the
 // test whether a room is sound.
+#![tactic(auto)]
+
 pub mod valid;
 
 // The most fields, and the most bytes of a text.

@@ -1,4 +1,6 @@
 // What a factor is made of, but for parentheses: a leaf, and the marks after an atom. Each reads what the text has at a place, and requires that it is there.
+#![tactic(auto)]
+
 ghost use Rattle.std.specs.Prelude.{◌≤◌, length};
 ghost use Rattle.scope.specs.Text.Grammar.{atoms};
 ghost use Rattle.sets.specs.Layout.{read_words};

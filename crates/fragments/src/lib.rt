@@ -1,4 +1,6 @@
 // A part of a pattern, made of its parts. Its First and Last lie in two sets of the lent words, with those of all parts that are being read.
+#![tactic(auto)]
+
 ghost use Rattle.std.specs.Prelude.{true, ◌<◌, ◌≤◌, length};
 ghost use Rattle.scope.specs.Limits.{position_limit};
 ghost use Rattle.sets.specs.Value.{set_bits};
@@ -8,7 +10,7 @@ ghost use Rattle.fragments.specs.Shapes.{Linked, Alone, Blank, Beside, Either, M
 use sets::layout::{FIRST_AT, LAST_AT};
 
 // A part that was read: the place after it, the number of positions up to there, and whether the empty word is there.
-#[derive(Drop)]
+#[derive(Clone, Copy)]
 pub struct Fragment {
     pub next: usize,
     pub count: usize,

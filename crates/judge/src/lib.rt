@@ -1,4 +1,6 @@
 // Judging a pattern text: SYNTAX, RANGE, DEPTH and POSITIONS with their places, in one pass with a mode and a count of open parentheses.
+#![tactic(auto)]
+
 ghost use Rattle.judge.specs.Judges.{JudgesText};
 ghost use Rattle.judge.specs.Faults.{Faults};
 
@@ -6,7 +8,7 @@ use judge_state::Reading;
 use scope::Machine;
 
 // What a text is judged: faultless, or the first fault in the order of judgement, with its place.
-#[derive(Drop)]
+#[derive(Clone, Copy)]
 pub enum Judged {
     Faultless,
     Syntax(usize),

@@ -1,4 +1,6 @@
 // Inside one atom: the bytes of its class, with their ranges, and escapes, of the atom itself and of the bytes of a class.
+#![tactic(auto)]
+
 ghost use Rattle.std.specs.Prelude.{◌<◌, ◌≤◌};
 ghost use Rattle.modes.specs.Modes.{back, code, digit};
 ghost use Rattle.judge_state.specs.Reading.{piece_of, Bounded};

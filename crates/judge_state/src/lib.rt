@@ -1,4 +1,6 @@
 // What is known of a text after each of its bytes: where in the grammar it has come to, and which places were noted.
+#![tactic(auto)]
+
 ghost use Rattle.std.specs.Prelude.{◌≡◌, ◌≤◌};
 ghost use Rattle.scope.specs.Limits.{position_limit};
 ghost use Rattle.modes.specs.Modes.{stuck};
@@ -8,7 +10,7 @@ ghost use Rattle.judge_state.specs.Reading.{standing, NotesKept, TallyMore, Read
 use scope::Machine;
 
 // How many places of a kind there were, counted to one beyond a limit, and the last that was counted.
-#[derive(Drop)]
+#[derive(Clone, Copy)]
 pub struct Tally {
     pub count: usize,
     pub place: usize,
@@ -34,7 +36,7 @@ impl Tally {
 // The mode, as a stage of a piece, and the number of open parentheses. half: the first digit of a code on its way. least: the last byte of a class, a low
 // end if a dash follows. from: the first byte of the atom on its way, or the dash of the range. Then three tallies: the falling ranges, the
 // parentheses that open inside as many others as may be, and the positions.
-#[derive(Drop)]
+#[derive(Clone, Copy)]
 pub struct Reading {
     pub stage: u8,
     pub piece: u8,

@@ -1,4 +1,6 @@
 // One byte more of a text: what is known after it, of what was known before it.
+#![tactic(auto)]
+
 ghost use Rattle.std.specs.Prelude.{◌≡◌, ◌<◌, ◌≤◌};
 ghost use Rattle.modes.specs.Modes.{atom};
 ghost use Rattle.judge_state.specs.Reading.{Bounded};

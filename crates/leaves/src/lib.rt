@@ -1,4 +1,6 @@
 // What stands at one position: a literal, a byte's escape, the dot or a class. Its bytes are put into its set, in a lent buffer; or its end alone is found.
+#![tactic(auto)]
+
 mod byte_set;
 pub mod text;
 

@@ -31,7 +31,7 @@ pub const NOTHING: usize = b'0' as usize;
 pub const END: usize = 256;
 
 // A byte that was read, and the place after it.
-#[derive(Drop)]
+#[derive(Clone, Copy)]
 pub struct Taken {
     pub next: usize,
     pub byte: u8,

@@ -1,4 +1,6 @@
 // What lines are made of, each piece put behind the one before: a byte, a text, a number in decimal, a string in hex.
+#![tactic(auto)]
+
 ghost use Rattle.std.specs.Prelude.{◌≡◌, [], ◌∷◌, ◌+◌, ◌≤◌, ◌<◌, length};
 ghost use Rattle.scope.specs.Lines.{decimal, hex_digit, shown};
 ghost use Rattle.line_pieces.specs.Appended.{Appended};

@@ -1,4 +1,6 @@
 // The sets of bytes that the pattern language names, and the value of a hex digit. A test has no branch.
+#![tactic(auto)]
+
 ghost use Rattle.std.specs.Prelude.{◌≡◌};
 ghost use Rattle.scope.specs.Bytes.{between};
 ghost use Rattle.scope.specs.Text.Grammar.{twelve, literal, escapable, class_literal, is_mark, hex};

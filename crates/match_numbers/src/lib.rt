@@ -1,4 +1,6 @@
 // Matching with its answer as numbers, for the C boundary.
+#![tactic(auto)]
+
 ghost use Rattle.scope.specs.Operations.Match.{Matches};
 ghost use Rattle.telling.specs.Expected.{MatchTells};
 

@@ -1,4 +1,6 @@
 // Matching a text against a machine room: one plain pass over the text, and a second, to the place where it died, only if it is dead.
+#![tactic(auto)]
+
 ghost use Rattle.std.specs.Prelude.{◌≡◌, ◌<◌, drop};
 ghost use Rattle.answers.specs.Numbers.{matched_number, matched_place};
 ghost use Rattle.scope.specs.Machines.Machine.{run};

@@ -1,4 +1,6 @@
 // Minimising with its answer as a number, for the C boundary.
+#![tactic(auto)]
+
 ghost use Rattle.scope.specs.Operations.Minimise.{Minimises};
 
 // Minimises, and returns the number of the answer.

@@ -1,4 +1,6 @@
 // Packing and unpacking with their answers as numbers, for the C boundary.
+#![tactic(auto)]
+
 ghost use Rattle.scope.specs.Operations.Pack.{Packs};
 ghost use Rattle.scope.specs.Operations.Unpack.{Unpacks};
 

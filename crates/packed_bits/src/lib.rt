@@ -1,4 +1,6 @@
 // The bit fields of the packed form: how wide they are, where they begin, and how many bits and bytes all of them have.
+#![tactic(auto)]
+
 ghost use Rattle.std.specs.Prelude.{◌≡◌, ◌*◌, ◌%◌, ◌^◌, ◌≤◌};
 ghost use Rattle.scope.specs.Limits.{state_limit, class_limit};
 ghost use Rattle.scope.specs.Machines.Room.{SoundTable};

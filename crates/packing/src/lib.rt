@@ -1,4 +1,6 @@
 // Packing a canonical machine into its form, and unpacking a form into the machine. A form is taken only if it is that of a canonical room, so each undoes the other.
+#![tactic(auto)]
+
 ghost use Rattle.std.specs.Prelude.{◌≤◌, length};
 ghost use Rattle.answers.specs.Numbers.{packed_number, packed_length, unpacked_number};
 ghost use Rattle.scope.specs.Limits.{scratch_words, room_bytes};

@@ -2,6 +2,8 @@
 // returned, and the numbers that come with it (a place, a length, rounds) are written through references, as 0 where the answer has none; marks of the 256 byte values, 1
 // for yes and 0 for no, only with an answer that has them. Nothing happens here: each function forwards to the one of a small crate over its operation (`compile_numbers` and so on), which takes the answer apart. The contract of
 // both is the operation's own relation, with what is returned and written in the place of the answer.
+#![tactic(auto)]
+
 ghost use Rattle.scope.specs.Operations.Compare.{Compares};
 ghost use Rattle.scope.specs.Operations.Compile.{Compiles};
 ghost use Rattle.scope.specs.Operations.Match.{Matches};

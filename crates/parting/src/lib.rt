@@ -2,6 +2,8 @@
 //
 // Two rooms stand side by side, the states of b after those of a. Only a byte of each kind is tried. Where the first few of them lead is read from rows, a word of
 // cells for each state; where the others do, from the rooms.
+#![tactic(auto)]
+
 ghost use Rattle.std.specs.Prelude.{◌+◌, ◌≤◌, ◌<◌, length, get_or};
 ghost use Rattle.scope.specs.Machines.Room.{states_of, SoundTable};
 ghost use Rattle.scope.specs.Operations.Buffers.{TailKept};

@@ -1,4 +1,6 @@
 // Reading a judged text: the sets of positions of its tree, and the bytes that each position holds. One pass over the text makes the byte sets, the readers the others.
+#![tactic(auto)]
+
 mod readers;
 
 ghost use Rattle.sets.specs.Layout.{byte_sets, read_words};
@@ -8,7 +10,7 @@ use sets::Set;
 use sets::layout::LAST_AT;
 
 // What a pattern is besides the sets in the scratch: whether it has the empty word, Last, and how many positions it has.
-#[derive(Drop)]
+#[derive(Clone, Copy)]
 pub struct Shape {
     pub null: bool,
     pub last: Set,

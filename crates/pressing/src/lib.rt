@@ -1,4 +1,6 @@
 // A key on a form that is long enough: everything but the open field is judged here, and the open field with the key in `typing`.
+#![tactic(auto)]
+
 ghost use Rattle.entry_form.specs.EntryForm.{count_of, DeskLent};
 ghost use Rattle.desk_rules.specs.DeskAnswers.{pressed_number};
 ghost use Rattle.desk_rules.specs.Press.{Presses};

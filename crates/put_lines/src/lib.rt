@@ -1,4 +1,6 @@
 // What the program `alike` prints: the lines of its answers, put one behind the other.
+#![tactic(auto)]
+
 ghost use Rattle.std.specs.Prelude.{◌++◌, ◌+◌, ◌≤◌, length};
 ghost use Rattle.scope.specs.Limits.{word_bytes};
 ghost use Rattle.scope.specs.Lines.{outcome_lines, printed};
@@ -21,7 +23,7 @@ const DONE: u8 = 0;
 const SAME: u8 = 0;
 
 // What compiling one side answered: number and place, and the states and classes of its room.
-#[derive(Drop)]
+#[derive(Clone, Copy)]
 pub struct Side {
     pub number: u8,
     pub place: usize,

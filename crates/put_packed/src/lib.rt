@@ -1,4 +1,6 @@
 // Packing: each field is put behind the bits that do not yet fill a byte, and a byte that is full goes out.
+#![tactic(auto)]
+
 ghost use Rattle.std.specs.Prelude.{◌≡◌, ◌+◌, ◌*◌, ◌^◌, ◌≤◌, ◌<◌, length};
 ghost use Rattle.scope.specs.Machines.Room.{SoundTable};
 ghost use Rattle.scope.specs.Packing.PackedForm.{form_length, form_byte};
@@ -11,7 +13,7 @@ use packed_bits::{CLASS_BITS, FORM_NUMBER, FORM_NUMBER_BITS, MARK_BITS, STATE_BI
 use scope::Machine;
 
 // `at` whole bytes of a form are out; `held` has the next bits, `count` of them, fewer than eight.
-#[derive(Drop)]
+#[derive(Clone, Copy)]
 struct Filling {
     held: usize,
     count: usize,

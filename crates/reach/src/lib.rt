@@ -1,5 +1,7 @@
 // The search for the reached sets, and the cells of the image row by row. A row is one union of follow sets, and for each class what it has in common with the
 // class's mask; a set that is not yet among the reached ones takes the next seat.
+#![tactic(auto)]
+
 ghost use Rattle.std.specs.Prelude.{◌≡◌, ◌*◌, ◌<◌, ◌≤◌, length};
 ghost use Rattle.scope.specs.Limits.{set_words};
 ghost use Rattle.scope.specs.Positions.Bits.{joined};

@@ -3,6 +3,8 @@
 // Rooms stand side by side, the states of b after those of a, and the first n of these states are refined: all of them, or those of a alone, whatever stands beside it.
 // Round 0 parts the states by their mark; each next round splits what some byte leads into different parts; the first round that opens no part is the last. With each
 // part its parent is kept, the part that it was split from, and the round of its birth.
+#![tactic(auto)]
+
 ghost use Rattle.std.specs.Prelude.{◌≡◌, ◌≤◌, length, get_or, replicate};
 ghost use Rattle.scope.specs.Limits.{byte_values};
 ghost use Rattle.scope.specs.Machines.Room.{SoundTable};
@@ -93,7 +95,7 @@ pub fn refine(
 }
 
 // How many kinds the bytes of one room are of, and how many rounds its states take.
-#[derive(Drop)]
+#[derive(Clone, Copy)]
 pub struct Alone {
     pub kinds: usize,
     pub rounds: usize,

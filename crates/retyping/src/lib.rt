@@ -1,4 +1,6 @@
 // Another text in a field: its last byte taken out, or one byte more.
+#![tactic(auto)]
+
 ghost use Rattle.std.specs.Prelude.{◌-◌, ◌<◌, ◌≤◌, [], ◌∷◌, ◌++◌, length, take};
 ghost use Rattle.entry_form.specs.EntryForm.{field_limit, text_limit, form_bytes, length_of, text_of};
 ghost use Rattle.entry_form.specs.ValidForm.{Plain};

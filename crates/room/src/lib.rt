@@ -1,4 +1,6 @@
 // A machine room: its head read and written, whether its table is sound, one step of its machine, and the way home of a state.
+#![tactic(auto)]
+
 ghost use Rattle.std.specs.Prelude.{◌≡◌, ◌+◌, ◌*◌, ◌<◌, ◌≤◌, length};
 ghost use Rattle.scope.specs.Limits.{byte_values, class_limit, state_limit, classes_at, room_bytes};
 ghost use Rattle.scope.specs.Operations.Buffers.{Written};

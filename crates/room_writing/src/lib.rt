@@ -1,4 +1,6 @@
 // The room: the bytes of the smallest machine, part by part.
+#![tactic(auto)]
+
 ghost use Rattle.std.specs.Prelude.{◌+◌, ◌-◌, ◌*◌, ◌≤◌, ◌<◌, length, get_or};
 ghost use Rattle.scope.specs.Limits.{class_limit, marks_at, cells_at, ways_at};
 ghost use Rattle.scope.specs.Machines.Room.{states_of, classes_of, mark_of, cell_of, Below, SoundTable};

@@ -3,6 +3,8 @@
 // A part is named by its least state: so a state that begins a part begins one in every later round, and a part that is opened has one parent, the part that its
 // least state lay in before. A state is looked at only where something has moved that it or the beginning of its part leads to, and compared only with the states
 // that begin new parts within its old one.
+#![tactic(auto)]
+
 ghost use Rattle.std.specs.Prelude.{◌≡◌, true, false, ℕ, ◌≤◌, ◌<◌, length, get_or, set};
 ghost use Rattle.buffers.specs.Stored.{Decides};
 ghost use Rattle.two_rooms.specs.Side.{both_limit, both, FirstStates};

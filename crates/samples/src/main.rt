@@ -7,6 +7,8 @@
 //   compare ROOM ROOM: same rounds R, or separated WORD rounds R, the word in hex, - if it is empty
 //   pack ROOM: bytes N
 // A room is that of a pattern, or has a name in braces, which begin no pattern (`rooms`). One that is not taken is refused NUMBER.
+#![tactic(auto)]
+
 mod rooms;
 mod show;
 

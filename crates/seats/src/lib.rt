@@ -1,5 +1,7 @@
 // The seats of the reached sets: sets in the words, in the order of their arrival. A set has the number of its seat; one that has none yet takes the next. For each
 // remainder of a set the number that a set with it had last is tried first.
+#![tactic(auto)]
+
 ghost use Rattle.std.specs.Prelude.{◌≡◌, true, ℕ, ◌+◌, ◌*◌, ◌%◌, ◌^◌, ◌<◌, ◌≤◌, length};
 ghost use Rattle.scope.specs.Limits.{state_limit, set_words};
 ghost use Rattle.buffers.specs.Numbered.{Found};

@@ -1,5 +1,7 @@
 // Sets of positions by value. A set is a number whose bit p stands for the position p, bit 0 for the state 0; the number is kept in words of 64 bits,
 // the lowest first.
+#![tactic(auto)]
+
 ghost use Rattle.std.specs.Prelude.{◌≡◌, ◌+◌, ◌*◌, ◌^◌, ◌<◌, ◌≤◌, eqb, length};
 ghost use Rattle.std.specs.Int.Bits.{bit_or, bit_and};
 ghost use Rattle.scope.specs.Limits.{set_words};
@@ -10,7 +12,7 @@ use scope::Machine;
 pub mod layout;
 
 // A set of positions.
-#[derive(Drop)]
+#[derive(Clone, Copy)]
 pub struct Set {
     pub words: [u64; Machine::SET_WORDS],
 }

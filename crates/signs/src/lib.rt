@@ -2,6 +2,8 @@
 //
 // With each state the signs of those are noted that a byte leads to it. Round 0 parts the states by their mark, and has then the signs of the states that lead to
 // one that is not of the first part.
+#![tactic(auto)]
+
 ghost use Rattle.std.specs.Prelude.{◌≡◌, ◌+◌, ◌%◌, ◌^◌, ◌≤◌, ◌<◌, length, replicate};
 ghost use Rattle.scope.specs.Machines.Room.{states_of, classes_of, SoundTable};
 ghost use Rattle.scope.specs.Machines.Rounds.{Together};

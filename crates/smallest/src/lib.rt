@@ -1,5 +1,7 @@
 // From any room with a sound table the canonical room of the same strings. The states are refined into parts that no string tells apart, and those that are reached numbered on
 // first arrival; kinds of bytes that every state sends alike share a class; and what came out is written as a room. A room is canonical if nothing of it would change.
+#![tactic(auto)]
+
 mod stay;
 
 ghost use Rattle.std.specs.Prelude.{◌≤◌, length};

@@ -1,5 +1,7 @@
 // The plan of the smallest machine of a room: which states it has, numbered on first arrival, and which classes, numbered by their smallest byte. What numbers the
 // states, merges the classes and writes the room stands above it.
+#![tactic(auto)]
+
 ghost use Rattle.std.specs.Prelude.{◌≤◌, length};
 ghost use Rattle.scope.specs.Limits.{byte_values};
 ghost use Rattle.buffers.specs.Stored.{Decides};
@@ -8,7 +10,7 @@ ghost use Rattle.smallest_plan.specs.Planned.{SameOrder};
 use scope::Machine;
 
 // The smallest machine of a room: for each of its states one of the room's, for each of the room's its number; the class of each byte, and for each class one of the room's.
-#[derive(Drop)]
+#[derive(Clone, Copy)]
 pub struct Plan {
     pub states: usize,
     pub order: [u8; Machine::STATES],

@@ -4,6 +4,8 @@
 // then over four at a time: a field of hex digits has many states and few classes, and a loop over the classes of each state would cost more to begin than to run. Ways
 // are compared as they lie in the room, with no turn of their bytes and no table of them: a way below 256 has the high byte 0, so that the number with the low byte
 // first keeps the order.
+#![tactic(auto)]
+
 ghost use Rattle.std.specs.Prelude.{◌≡◌, ◌+◌, ◌<◌, ◌≤◌, eqb, length};
 ghost use Rattle.scope.specs.Limits.{class_limit, state_limit, room_bytes};
 ghost use Rattle.scope.specs.Machines.Room.{states_of, classes_of, cell_of, Below, SoundTable, SoundWays, Sound};

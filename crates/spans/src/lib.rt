@@ -1,4 +1,6 @@
 // Spans of positions in the sets of a buffer: those after one position up to another. A set is changed there word by word, and no set is held by value.
+#![tactic(auto)]
+
 ghost use Rattle.std.specs.Prelude.{◌≡◌, ◌&&◌, ◌||◌, not, ℕ, ◌+◌, ◌*◌, ◌<◌, ◌≤◌, leb, length};
 ghost use Rattle.scope.specs.Bytes.{between};
 ghost use Rattle.scope.specs.Limits.{set_words};

@@ -5,6 +5,8 @@
 // halving, where each step climbs from both starts. Of these strings the first is spelled byte by byte: two states that r + 1 bytes tell apart, and no fewer, are led
 // by some byte to two states that r bytes tell apart, and the first such byte is the next of the string. A byte leads where the least byte of its kind does, so only
 // these are tried.
+#![tactic(auto)]
+
 ghost use Rattle.std.specs.Prelude.{ℕ, ◌≤◌, length};
 ghost use Rattle.two_rooms.specs.Kinds.{Kinds};
 ghost use Rattle.spelling.specs.Word.{Apart, Between, Spells, WordHas};

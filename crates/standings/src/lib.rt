@@ -1,4 +1,6 @@
 // How the open field stands: one match of its text, or of its text with a byte after it. The place where a text died tells whether it was dead before that byte.
+#![tactic(auto)]
+
 ghost use Rattle.std.specs.Prelude.{◌+◌, ◌*◌, ◌<◌, ◌≤◌, [], ◌∷◌, ◌++◌, length};
 ghost use Rattle.scope.specs.Machines.Room.{Sound};
 ghost use Rattle.buffers.specs.Stored.{Decides};
@@ -12,7 +14,7 @@ use entry_form::{LENGTHS_AT, TEXT, TEXTS_AT};
 use scope::Machine;
 
 // How the text of an open field stands, with a byte after it or not; Lost if no keys lead to the field.
-#[derive(Drop)]
+#[derive(Clone, Copy)]
 pub enum Standing {
     Accepted,
     Unfinished,

@@ -1,4 +1,6 @@
 // How the program `alike` takes its two lines from an input that comes in blocks.
+#![tactic(auto)]
+
 ghost use Rattle.std.specs.Prelude.{List, [], ◌∷◌, ℕ, ◌≤◌, ◌<◌, length};
 ghost use Rattle.scope.specs.Limits.{pattern_limit};
 ghost use Rattle.take_lines.specs.Taking.{GrownBy, Taken, TakesBlock};
@@ -6,7 +8,7 @@ ghost use Rattle.take_lines.specs.Taking.{GrownBy, Taken, TakesBlock};
 use scope::Machine;
 
 // How far the two lines are taken: how many of them are ended, and their lengths so far; one more than a pattern may have stands for any more.
-#[derive(Drop)]
+#[derive(Clone, Copy)]
 pub struct Taking {
     pub line: usize,
     pub first: usize,

@@ -1,4 +1,6 @@
 // Unpacking: a field of at most eight bits lies in two bytes; past its end a form reads as 0.
+#![tactic(auto)]
+
 ghost use Rattle.std.specs.Prelude.{◌+◌, ◌*◌, ◌^◌, ◌≤◌, ◌<◌, length};
 ghost use Rattle.scope.specs.Limits.{state_limit, class_limit, ways_at, room_bytes};
 ghost use Rattle.scope.specs.Operations.Buffers.{TailKept};

@@ -1,5 +1,7 @@
 // What could have stood there: matching that also tells, of a dead text, which bytes could have stood where it died. They are marked in a lent array of 256 bytes, 1 for
 // yes and 0 for no. Nothing is written with any other answer.
+#![tactic(auto)]
+
 ghost use Rattle.std.specs.Prelude.{◌≡◌, ◌<◌, length};
 ghost use Rattle.answers.specs.Numbers.{matched_number, matched_place};
 ghost use Rattle.scope.specs.Answers.{DEAD};

@@ -1,6 +1,8 @@
 // Two rooms side by side, the states of b after those of a: where a state leads and its mark, and the kinds of the bytes.
 //
 // Two bytes are of one kind if they have one class in each room. What goes over bytes need only go over the least byte of each kind.
+#![tactic(auto)]
+
 ghost use Rattle.std.specs.Prelude.{◌≡◌, ◌+◌, ◌≤◌, ◌<◌, get_or, replicate};
 ghost use Rattle.scope.specs.Limits.{byte_values};
 ghost use Rattle.scope.specs.Machines.Room.{states_of, Below, SoundTable};
@@ -43,7 +45,7 @@ pub fn mark(a: &[u8], b: &[u8], q: usize) -> u8
 }
 
 // The kinds of the bytes by two rooms: the least byte of each.
-#[derive(Drop)]
+#[derive(Clone, Copy)]
 pub struct ByteKinds {
     pub least: [u8; Machine::BYTES],
     pub count: usize,

@@ -1,4 +1,6 @@
 // The keys, on a form in which everything but the open field was judged.
+#![tactic(auto)]
+
 ghost use Rattle.entry_form.specs.Text as text;
 ghost use Rattle.entry_form.specs.ValidForm.{Plain};
 ghost use Rattle.standings.specs.Stand.{OtherFields};

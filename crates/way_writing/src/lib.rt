@@ -1,4 +1,6 @@
 // Writes the ways home of a machine room: they sink from 65,535, sweep by sweep, until none moves.
+#![tactic(auto)]
+
 ghost use Rattle.std.specs.Prelude.{◌≡◌, ◌≤◌, ◌<◌, length, get_or};
 ghost use Rattle.scope.specs.Limits.{state_limit, room_bytes};
 ghost use Rattle.scope.specs.Machines.Room.{states_of, classes_of, cell_of, SoundTable};

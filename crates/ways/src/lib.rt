@@ -1,4 +1,6 @@
 // What judging and writing ways home share: the classes of a room that some byte has, and the lesser of two ways.
+#![tactic(auto)]
+
 ghost use Rattle.std.specs.Prelude.{◌≡◌, ◌+◌, ◌≤◌, min, length};
 ghost use Rattle.scope.specs.Limits.{class_limit, marks_at};
 ghost use Rattle.scope.specs.Machines.Room.{SoundTable};

@@ -38,3 +38,4 @@ listed_at f (suc n) i h = elim (split i n) [
   | inl k ↦ get_or-append (listed f n) (f n ∷ []) 0 i (omega (arith, listed_length f n)) ∙ listed_at f n i k
   | inr k ↦ let e : i ≡ n = omega arith in rw e (get_or_at (listed f n) (f n) [] 0 n (listed_length f n))
 ]
+listed_at f zero i h = elim h [ ]

@@ -37,6 +37,7 @@ same_test false false f g = refl
 
 pub T→ : (b : Bool) → T b → b ≡ true
 T→ true t = refl
+T→ false t = elim t [ ]
 
 -- ---- deciding
 

@@ -22,3 +22,4 @@ module _ {A : Type 0} where
   judged_one (P ∷ l) o a b (inl x) (inr y) = absurd (y.0 a x)
   judged_one (P ∷ l) o a b (inr x) (inl y) = absurd (x.0 b y)
   judged_one (P ∷ l) o a b (inr x) (inr y) = judged_one l o.1 a b x.1 y.1
+  judged_one [] o a b x3 _ = elim x3 [ ]

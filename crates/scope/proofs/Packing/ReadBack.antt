@@ -39,6 +39,7 @@ value_one (suc n) f g a b e j l = elim (split j n) [
   | inl k ↦ value_one n f g (λ i h. a i (omega arith)) (λ i h. b i (omega arith)) (omega (arith, a n (omega arith), b n (omega arith))) j k
   | inr k ↦ let t : j ≡ n = omega arith in rw t (omega (arith, a n (omega arith), b n (omega arith)))
 ]
+value_one zero f g a b e j l = elim l [ ]
 
 abbrev pub Bits : List ℕ → Type 0
 Bits l = (j : ℕ) → get_or l j 0 < 2
@@ -93,3 +94,4 @@ fields_at k n (x ∷ l) r p e (suc i) h b =
     let s : p + suc i * n ≡ p + n + i * n = omega (arith, suc-mul i n) in
     rw (s, append_assoc (bits n x) (fields n l) r, ← append_assoc k (bits n x) (fields n l ++ r))
     (fields_at (k ++ bits n x) n l r (p + n) q i (omega arith) b)
+fields_at k n [] r p e i h b = elim h [ ]

@@ -29,6 +29,8 @@ first_in (cat e f) k p (inl h) = let r = first_in e k p h in omega arith
 first_in (cat e f) k p (inr h) = let r = first_in f (k + size e) p h.1 in omega arith
 first_in (star e) k p h = first_in e k p h
 first_in (plus e) k p h = first_in e k p h
+first_in none k p h = elim h [ ]
+first_in eps k p h = elim h [ ]
 
 -- a position in Last is one of e
 pub last_in : (e : Re) (k p : ℕ) → Last e k p → PositionOf e k p
@@ -39,6 +41,8 @@ last_in (cat e f) k p (inl h) = let r = last_in f (k + size e) p h in omega arit
 last_in (cat e f) k p (inr h) = let r = last_in e k p h.1 in omega arith
 last_in (star e) k p h = last_in e k p h
 last_in (plus e) k p h = last_in e k p h
+last_in none k p h = elim h [ ]
+last_in eps k p h = elim h [ ]
 
 -- a position that holds a byte is one of e
 pub at_in : (e : Re) (k p b : ℕ) → At e k p b → PositionOf e k p
@@ -49,6 +53,8 @@ at_in (cat e f) k p b (inl h) = let r = at_in e k p b h in omega arith
 at_in (cat e f) k p b (inr h) = let r = at_in f (k + size e) p b h in omega arith
 at_in (star e) k p b h = at_in e k p b h
 at_in (plus e) k p b h = at_in e k p b h
+at_in none k p b h = elim h [ ]
+at_in eps k p b h = elim h [ ]
 
 -- positions of which one follows the other are both of e
 pub follow_in : (e : Re) (k p q : ℕ) → Follow e k p q → PositionOf e k p × PositionOf e k q
@@ -61,6 +67,9 @@ follow_in (star e) k p q (inl h) = follow_in e k p q h
 follow_in (star e) k p q (inr h) = (last_in e k p h.0, first_in e k q h.1)
 follow_in (plus e) k p q (inl h) = follow_in e k p q h
 follow_in (plus e) k p q (inr h) = (last_in e k p h.0, first_in e k q h.1)
+follow_in none k p q x' = elim x' [ ]
+follow_in eps k p q x'' = elim x'' [ ]
+follow_in (one _) k p q x4 = elim x4 [ ]
 
 -- ---- what is left of a word, and its next step
 
@@ -140,11 +149,13 @@ rest_goes (cat e f) k p w (inl (split {u = u} t g)) = cat_goes p (rest_goes e k 
 rest_goes (cat e f) k p w (inr t) = carry inl (λ q h. inl (inr h)) (λ q b. inr) (λ q v. inr) (rest_goes f (k + size e) p w t)
 rest_goes (star e) k p w (split {u = u} t g) = star_goes p (rest_goes e k p u t) (word_begins k g) g
 rest_goes (plus e) k p w (split {u = u} t g) = carry (λ l. l) (λ q h. h) (λ q b a. a) (λ q v r. r) (star_goes p (rest_goes e k p u t) (word_begins k g) g)
+rest_goes none k p w x' = elim x' [ ]
+rest_goes eps k p w x'' = elim x'' [ ]
 
 -- ---- what begins so is a word, and what goes so is left: no position is in two parts
 
 rest_in : (e : Re) (k p : ℕ) (w : List ℕ) → Rest e k p w → PositionOf e k p
-rest_in e k p w t = elim (rest_goes e k p w t) [ stop l ↦ last_in e k p l | on {q = q} h a r ↦ (follow_in e k p q h).0 ]
+rest_in e k p w t = elim (rest_goes e k p w t) as (λ _ _. PositionOf e k p) [ stop l ↦ last_in e k p l | on {q = q} h a r ↦ (follow_in e k p q h).0 ]
 
 module _ (e f : Re) (k : ℕ) where
   at_left : (q b : ℕ) → PositionOf e k q → At e k q b ⊎ At f (k + size e) q b → At e k q b
@@ -181,6 +192,9 @@ begins_word (star e) k (stop n) = w_done
 begins_word (star e) k (on i a (split t g)) = w_more (begins_word e k (on i a t)) g
 begins_word (plus e) k (stop n) = w_plus (begins_word e k (stop n)) w_done
 begins_word (plus e) k (on i a (split t g)) = w_plus (begins_word e k (on i a t)) g
+begins_word none k (on {q = q} {b = b} {w = w} i a t) = elim i [ ]
+begins_word eps k (on {q = q} {b = b} {w = w} i a t) = elim i [ ]
+begins_word (one s) k (stop n) = elim n [ ]
 
 -- F* and F+ go on in the same way
 star_rest : (e : Re) (k p : ℕ) {w : List ℕ} → ((v : List ℕ) → Goes e k p v → Rest e k p v) → Goes (star e) k p w → Rest (star e) k p w
@@ -208,6 +222,9 @@ goes_rest (cat e f) k p (on {q = q} {b = b} (inr (l, i)) a (inr t)) =
     inl (split (goes_rest e k p (stop l)) (begins_word f (k + size e) (on i (at_right e f k q b (first_in f (k + size e) q i) a) t)))
 goes_rest (star e) k p m = star_rest e k p (λ v. goes_rest e k p) m
 goes_rest (plus e) k p m = star_rest e k p (λ v. goes_rest e k p) (carry (λ l. l) (λ q h. h) (λ q b a. a) (λ q v r. r) m)
+goes_rest none k p (on {q = q} {b = b} {w = w} x5 a _) = elim x5 [ ]
+goes_rest eps k p (on {q = q} {b = b} {w = w} x6 a _) = elim x6 [ ]
+goes_rest (one s) k p (on {q = q} {b = b} {w = w} x7 a _) = elim x7 [ ]
 
 -- ---- paths
 
@@ -236,7 +253,7 @@ first_before_nothing s p = (λ h. elim h [ inl x ↦ x | inr x ↦ absurd x.0 ],
 
 -- yet e·∅ has no word, whatever e is
 pub no_word_before_nothing : (e : Re) (w : List ℕ) → Words (cat e none) w → ⊥
-no_word_before_nothing e w (w_cat h g) = elim (word_begins 0 g) [ stop n ↦ n | on i a t ↦ i ]
+no_word_before_nothing e w (w_cat h g) = elim (word_begins 0 g) as (λ _ _. ⊥) [ stop n ↦ n | on i a t ↦ i ]
 
 -- ---- marks
 

@@ -67,3 +67,4 @@ pub at_marked : (m : Mark) (e : Re) (k p b : ℕ) → At (marking m e) k p b →
 at_marked many e k p b a = a
 at_marked some e k p b a = a
 at_marked maybe e k p b (inl a) = a
+at_marked maybe e k p b (mathlib.Core.Logic.inr x') = elim x' [ ]

@@ -24,6 +24,7 @@ marks b = amounts (or (equals b (code "*")) (or (equals b (code "+")) (or (equal
     up (inl e) = (many, sym e)
     up (inr (inl e)) = (some, sym e)
     up (inr (inr (inl e))) = (maybe, sym e)
+    up (inr (inr (inr x3))) = elim x3 [ ]
 
     down : (m : Mark) × (b ≡ mark_byte m) → (code "*" ≡ b) ⊎ ((code "+" ≡ b) ⊎ ((code "?" ≡ b) ⊎ ⊥))
     down (many, e) = inl (sym e)
