@@ -1,0 +1,35 @@
+use Prim.Native.Nat.{◌+◌, ◌-◌, ◌*◌, ◌/◌, ◌<◌}
+use native.Mathlib.Omega.{arith}
+use borrow.Author.Rules.{rules}
+use mir.Syntax.{w64}
+use mir.Val.{Fits}
+use lib.ListN.{get_or}
+use Rattle.scope.specs.Limits.{byte_values}
+use Rattle.byte_runs.specs.Runs.{NoEnd}
+use Rattle.byte_runs.proofs.Ends.{left_start, left_from, left_none, left_end, before_last}
+use Rattle.byte_runs.proofs.end_of.Goals as goal
+
+pub loop-rest-init : goal.loop-rest-init
+loop-rest-init c = let fit : Fits w64 (get_or c.args.t1 (c.args.b / 64) 0) = search rules in (search rules, search rules, λ x h k. absurd (omega arith), left_from _ _ fit.fits)
+
+pub loop-rest-preserved : goal.loop-rest-preserved
+loop-rest-preserved c =
+    let passed : NoEnd c.args.t1 c.args.b (64 * (c.loop-rest.w + 1)) = left_none c.loop-rest.invariant.3 c.loop-rest.invariant.2 c.loop-rest-test.true in
+    let more : 64 * (c.loop-rest.w + 1) < byte_values = before_last c.args.t1 c.args.b _ c.requires.1 c.requires.0 (passed) in
+    let fit : Fits w64 (get_or c.args.t1 (c.loop-rest.w + 1) 0) = search rules in
+    (more, omega (arith, c.loop-rest.invariant.1), passed, left_start _ _ _ (omega (arith, c.loop-rest.invariant.1)) fit.fits)
+
+pub returns : goal.returns
+returns c = left_end c.loop-rest.invariant.3 c.loop-rest.invariant.2 c.loop-rest-test.false (omega (arith, c.loop-rest.invariant.0))
+
+pub bounds-ends-w-in-loop-rest : goal.bounds-ends-w-in-loop-rest
+bounds-ends-w-in-loop-rest c =
+    let passed : NoEnd c.args.t1 c.args.b (64 * (c.loop-rest.w + 1)) = left_none c.loop-rest.invariant.3 c.loop-rest.invariant.2 c.loop-rest-test.true in
+    let more : 64 * (c.loop-rest.w + 1) < byte_values = before_last c.args.t1 c.args.b _ c.requires.1 c.requires.0 (passed) in
+    omega (arith, more)
+
+pub overflow_cast-result : goal.overflow_cast-result
+overflow_cast-result c = omega (arith, (returns c).byte)
+
+pub overflow_add-result : goal.overflow_add-result
+overflow_add-result c = omega (arith, (returns c).byte)

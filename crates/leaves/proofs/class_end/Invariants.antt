@@ -1,0 +1,11 @@
+-- The invariant: the `]` of every class that could be read here is still ahead, or reached.
+use Prim.Native.Nat.{◌-◌}
+use lib.ListN.{length}
+use Rattle.leaves.proofs.ClassEnd.{WithinClass}
+use Rattle.leaves.proofs.class_end.Given as goal
+
+abbrev pub invariant-loop-at : goal.invariant-loop-at
+invariant-loop-at l = WithinClass l.text l.at l.next
+
+abbrev pub decreases-loop-at : goal.decreases-loop-at
+decreases-loop-at l = length l.text - l.next

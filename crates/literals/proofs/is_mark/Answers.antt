@@ -1,0 +1,6 @@
+-- As it is defined; the tests are regrouped.
+use mathlib.Core.Bool.{or_assoc, or-false}
+use Rattle.literals.proofs.is_mark.Goals as goal
+
+pub returns : goal.returns
+returns c = rw (or_assoc, or-false)

@@ -1,0 +1,117 @@
+use mathlib.Core.Path.{◌≡◌, ◌∙◌}
+use mathlib.Core.Logic.{⊎_elim}
+use Prim.Native.Nat.{◌+◌, ◌-◌, ◌≤◌, ◌<◌}
+use native.Mathlib.Omega.{arith}
+use lib.ListN.{get_or}
+use Rattle.two_rooms.specs.Side.{both_limit, both}
+use Rattle.round.proofs.Passes.{passed_none, passed_stays, passed_joined, passed_opened}
+use Rattle.signs.proofs.Signs.{stayed_none, stayed_still, stayed_moved, seen_none, seen_past}
+use Rattle.round.proofs.Gaps.{Come, come_as, come_gap}
+use Rattle.round.proofs.round.Goals as goal
+
+pub looked-q-requires : goal.looked-q-requires
+looked-q-requires c =
+    let few : c.args.n ≤ both_limit = let d = c.requires.first_states in omega (arith, d.few, d.left.few_states, d.right.few_states) in
+    ((omega arith, few), (c.requires.each_kind.1.1.0, seen_none _ _))
+
+pub loop-q-init : goal.loop-q-init
+loop-q-init c =
+    let few : c.args.n ≤ both_limit = let d = c.requires.first_states in omega (arith, d.few, d.left.few_states, d.right.few_states) in
+    let a = c.args in
+    let d = c.requires.each_kind.1.1 in
+    let ((l, h, g), (s, v)) = c.looked-q.ensures in (
+      h,
+      g,
+      s,
+      come_gap (few) d.1.0.0 d.0 d.1.1.0 d.1.1.1.0 l h v
+          (record { passed = passed_none _ _ _ _ _ _ _ d.1.1.1.1.0 d.1.1.1.1.1; stayed = stayed_none a.part.now a.next.now a.from.now }),
+    )
+
+pub walk-p-requires : goal.walk-p-requires
+walk-p-requires c = let d = c.requires in let l = c.loop-q in let h = c.loop-q-test.true in
+    ((d.first_states.left, d.first_states.right), (d.each_kind.0, (record { long = omega (arith, h, d.each_kind.1.0.long); row = λ q k. d.each_kind.1.0.row q (omega (arith, h, k)) }, ((omega (arith, h, d.first_states.few), d.each_kind.1.1.0 l.q h, l.invariant.1 h), l.invariant.3.passed.chain))))
+
+pub shift-requires : goal.shift-requires
+shift-requires c =
+    let few : c.args.n ≤ both_limit = let d = c.requires.first_states in omega (arith, d.few, d.left.few_states, d.right.few_states) in
+    let low : (c.loop-q.q < both_limit) × (get_or c.args.part.now c.loop-q.q 0 < c.loop-q.q) = (omega (arith, c.loop-q-test.true, few), c.loop-q.invariant.1 c.loop-q-test.true) in
+    let z = low in (z.0, omega (arith, z), omega (arith, z, c.walk-p.ensures.low))
+
+pub looked-q-requires-in-loop-q : goal.looked-q-requires-in-loop-q
+looked-q-requires-in-loop-q c =
+    let few : c.args.n ≤ both_limit = let d = c.requires.first_states in omega (arith, d.few, d.left.few_states, d.right.few_states) in
+    let low : (c.loop-q.q < both_limit) × (get_or c.args.part.now c.loop-q.q 0 < c.loop-q.q) = (omega (arith, c.loop-q-test.true, few), c.loop-q.invariant.1 c.loop-q-test.true) in
+    ((omega (arith, c.loop-q-test.true), few), (c.requires.each_kind.1.1.0, seen_past c.loop-q.invariant.2 (low).1))
+
+pub loop-q-preserved : goal.loop-q-preserved
+loop-q-preserved c =
+    let few : c.args.n ≤ both_limit = let d = c.requires.first_states in omega (arith, d.few, d.left.few_states, d.right.few_states) in
+    let low : (c.loop-q.q < both_limit) × (get_or c.args.part.now c.loop-q.q 0 < c.loop-q.q) = (omega (arith, c.loop-q-test.true, few), c.loop-q.invariant.1 c.loop-q-test.true) in
+    let come : let a = c.args in let i = c.if-p-h in Come (both a.a.now a.b.now).next a.part.now a.next.now i.next i.link a.parent.now i.parent a.born.now i.born a.from.now a.r i.opened i.stirred (c.loop-q.q + 1) = let d = c.requires.each_kind.1.1 in
+    let g = d.1.0 in
+    let l = c.loop-q in let v = l.invariant.3 in
+    let p = v.passed in
+    let t = c.loop-q-test.true in
+    let z = low in
+    let f = c.walk-p in let same = d.1.1.1.0 l.q t in
+    ⊎_elim
+    (λ w.
+    let n = w.6.ensures.0 in
+    let o = w.6.ensures.1.0 w.7.taken in
+    come_as (w.8 ∙ o.links) (w.9 ∙ rw o.own at n) (w.10 ∙ o.parents) (w.11 ∙ o.births) w.12 w.13
+    (record { passed = passed_opened _ _ _ _ _ _ _ _ _ _ _ _ z.0 g.0 p (rw o.own at f.ensures) z.1 (d.0 l.q t).like g.1 g.2; stayed = stayed_moved v.stayed l.q }))
+    (⊎_elim
+    (λ w.
+    let o = w.6.ensures.1.1 w.7.left in
+    come_as (w.8 ∙ o.links) (w.9 ∙ w.6.ensures.0) (w.10 ∙ o.parents) (w.11 ∙ o.births) w.12 w.13
+    (record { passed = passed_joined _ _ _ _ _ _ _ _ _ _ _ _ z.0 g.0 p f.result f.ensures o.other (omega (arith, z)); stayed = stayed_moved v.stayed f.result }))
+    (λ w. come_as w.1 w.2 w.3 w.4 w.5 w.6
+    (record { passed = passed_stays _ _ _ _ _ _ _ _ _ _ _ _ z.0 g.0 p same (rw w.0.left at f.ensures); stayed = stayed_still v.stayed (p.named.kept l.q (omega arith) ∙ same) })))
+    c.if-p-h.branch in
+    let d = c.requires.each_kind.1.1 in
+    let ((l, h, g), (s, v)) = c.looked-q-in-loop-q.ensures in
+    (h, g, s, come_gap (few) d.1.0.0 d.0 d.1.1.0 d.1.1.1.0 l h v (come))
+
+pub returns : goal.returns
+returns c = let e : c.loop-q.q ≡ c.args.n = omega (arith, c.loop-q-test.false, c.loop-q.invariant.0) in
+    let v = rw e at c.loop-q.invariant.3 in
+    (v.passed.named, (v.passed.births, (v.stayed, (v.passed.some, (v.passed.link_long, v.passed.zero)))))
+
+pub offset_bounds-part-q : goal.offset_bounds-part-q
+offset_bounds-part-q c =
+    let few : c.args.n ≤ both_limit = let d = c.requires.first_states in omega (arith, d.few, d.left.few_states, d.right.few_states) in
+    let low : (c.loop-q.q < both_limit) × (get_or c.args.part.now c.loop-q.q 0 < c.loop-q.q) = (omega (arith, c.loop-q-test.true, few), c.loop-q.invariant.1 c.loop-q-test.true) in
+    omega (arith, low)
+
+pub bounds-part-q : goal.bounds-part-q
+bounds-part-q c =
+    let few : c.args.n ≤ both_limit = let d = c.requires.first_states in omega (arith, d.few, d.left.few_states, d.right.few_states) in
+    let low : (c.loop-q.q < both_limit) × (get_or c.args.part.now c.loop-q.q 0 < c.loop-q.q) = (omega (arith, c.loop-q-test.true, few), c.loop-q.invariant.1 c.loop-q-test.true) in
+    omega (arith, low)
+
+pub overflow_cast-h : goal.overflow_cast-h
+overflow_cast-h c =
+    let few : c.args.n ≤ both_limit = let d = c.requires.first_states in omega (arith, d.few, d.left.few_states, d.right.few_states) in
+    let low : (c.loop-q.q < both_limit) × (get_or c.args.part.now c.loop-q.q 0 < c.loop-q.q) = (omega (arith, c.loop-q-test.true, few), c.loop-q.invariant.1 c.loop-q-test.true) in
+    omega (arith, low)
+
+pub offset_bounds-from-q : goal.offset_bounds-from-q
+offset_bounds-from-q c =
+    let few : c.args.n ≤ both_limit = let d = c.requires.first_states in omega (arith, d.few, d.left.few_states, d.right.few_states) in
+    let low : (c.loop-q.q < both_limit) × (get_or c.args.part.now c.loop-q.q 0 < c.loop-q.q) = (omega (arith, c.loop-q-test.true, few), c.loop-q.invariant.1 c.loop-q-test.true) in
+    omega (arith, low)
+
+pub bounds-from-q : goal.bounds-from-q
+bounds-from-q c =
+    let few : c.args.n ≤ both_limit = let d = c.requires.first_states in omega (arith, d.few, d.left.few_states, d.right.few_states) in
+    let low : (c.loop-q.q < both_limit) × (get_or c.args.part.now c.loop-q.q 0 < c.loop-q.q) = (omega (arith, c.loop-q-test.true, few), c.loop-q.invariant.1 c.loop-q-test.true) in
+    omega (arith, low)
+
+pub overflow_add-q : goal.overflow_add-q
+overflow_add-q c =
+    let few : c.args.n ≤ both_limit = let d = c.requires.first_states in omega (arith, d.few, d.left.few_states, d.right.few_states) in
+    let low : (c.loop-q.q < both_limit) × (get_or c.args.part.now c.loop-q.q 0 < c.loop-q.q) = (omega (arith, c.loop-q-test.true, few), c.loop-q.invariant.1 c.loop-q-test.true) in
+    omega (arith, low)
+
+pub loop-q-smaller : goal.loop-q-smaller
+loop-q-smaller c = omega (arith, c.looked-q-in-loop-q.ensures.lower_bound.0, c.loop-q-test.true)

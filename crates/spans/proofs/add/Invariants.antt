@@ -1,0 +1,17 @@
+-- The invariant: of the set number i the words below w have the span, too.
+use Prim.Native.Nat.{◌+◌, ◌-◌, ◌*◌, ◌≤◌}
+use mathlib.Core.Path.{◌≡◌}
+use mathlib.Core.Bool.{◌||◌}
+use lib.ListN.{length}
+use Rattle.scope.specs.Bytes.{between}
+use Rattle.scope.specs.Limits.{set_words}
+use Rattle.scope.specs.Positions.Bits.{has}
+use Rattle.sets.specs.Value.{set_at}
+use Rattle.spans.proofs.Spans.{Becoming}
+use Rattle.spans.proofs.add.Given as goal
+
+abbrev pub invariant-loop-w : goal.invariant-loop-w
+invariant-loop-w l = (l.w ≤ set_words) × (l.at ≡ l.i * set_words) × (length l.words ≡ length l.initial.words) × Becoming l.initial.words l.words l.i l.w (λ q. has (set_at l.initial.words l.i) q || between (l.from + 1) l.to q)
+
+abbrev pub decreases-loop-w : goal.decreases-loop-w
+decreases-loop-w l = set_words - l.w

@@ -1,0 +1,19 @@
+use Prim.Native.Nat.{◌-◌}
+use mathlib.Core.Path.{◌≡◌}
+use native.Mathlib.Omega.{arith}
+use borrow.Author.Rules.{rules}
+use Rattle.ways.proofs.HeldClasses.{held_below}
+use Rattle.ways.proofs.LeastOver.{least_none, least_more}
+use Rattle.way_writing.proofs.least.Goals as goal
+
+pub loop-i-init : goal.loop-i-init
+loop-i-init c = (search rules, least_none _ _ _ _)
+
+pub next_way-requires : goal.next_way-requires
+next_way-requires c = let s = c.requires in record { sound_table = (s.sound_table, c.head-k.ensures.1); q_bound = (s.held_classes.1, held_below s.sound_table s.held_classes.0 c.loop-i.i c.loop-i-test.true (omega arith)) }
+
+pub loop-i-preserved : goal.loop-i-preserved
+loop-i-preserved c = (search rules, rw (c.lesser-way.ensures, c.next_way.ensures) (least_more c.loop-i.invariant.1))
+
+pub returns : goal.returns
+returns c = let e : c.loop-i.i ≡ c.args.count = search rules in rw e at c.loop-i.invariant.1
