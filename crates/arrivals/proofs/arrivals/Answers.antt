@@ -33,7 +33,7 @@ pub head-requires : goal.head-requires
 head-requires c = omega (arith, c.requires.sweepable.sound.long)
 
 pub numbers-requires : goal.numbers-requires
-numbers-requires c = let (d, k) = c.requires in
+numbers-requires c = let (d, k) = (c.requires.sweepable, c.requires.order_len) in
     let w = c.loop-q.invariant.1 in
     (rw c.head.ensures.0 (d.sound.few_states, omega (arith, swept_few d.sound w, d.sound.few_states), (λ t h g. d.parts.inside t h), numbers_fit d.sound w), k.1)
 

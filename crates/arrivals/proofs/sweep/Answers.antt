@@ -11,7 +11,7 @@ pub head-k-requires : goal.head-k-requires
 head-k-requires c = omega (arith, c.requires.sweepable.sound.long)
 
 pub bounds-order-q : goal.bounds-order-q
-bounds-order-q c = let g = c.requires in omega (arith, swept_few g.sweepable.sound g.q_lt_count.1, g.sweepable.sound.few_states)
+bounds-order-q c = omega (arith, swept_few c.requires.sweepable.sound c.requires.q_lt_count.1, c.requires.sweepable.sound.few_states)
 
 pub overflow_cast-row : goal.overflow_cast-row
 overflow_cast-row c = omega (arith, (c.requires.q_lt_count.1.back c.args.q c.requires.q_lt_count.0).inside, c.requires.sweepable.sound.few_states)
@@ -21,7 +21,7 @@ overflow_mul-row c = let k : c.head-k.result.classes ≤ class_limit = omega (ar
     omega (arith, mul-le-mul (c.requires.q_lt_count.1.back c.args.q c.requires.q_lt_count.0).inside k, c.requires.sweepable.sound.few_states)
 
 pub loop-i-init : goal.loop-i-init
-loop-i-init c = let g = c.requires in record { in_row = omega arith; in_rows = g.q_lt_count.0; is_row = rw c.head-k.ensures.1 refl; swept = row_first c.args.q g.q_lt_count.1 }
+loop-i-init c = record { in_row = omega arith; in_rows = c.requires.q_lt_count.0; is_row = rw c.head-k.ensures.1 refl; swept = row_first c.args.q c.requires.q_lt_count.1 }
 
 pub bounds-column-i : goal.bounds-column-i
 bounds-column-i c = omega (arith, c.requires.sweepable.few)

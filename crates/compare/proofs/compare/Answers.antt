@@ -39,4 +39,4 @@ clear-requires-2 c =
 pub returns : goal.returns
 returns c =
     let lent : let s = c.args in CompareLent s.left.now s.right.now s.word.now s.bytes.now s.words.now = c.is_lent.ensures.yes (not-false _ c.if-not-is_lent.false-raw) in
-    let (a, w) = c.answer-answer.ensures in a _ _ _ _ (lent) (cleared_after (omega arith) (omega arith) (all_kept _ 0) w c.clear-2.ensures)
+    let (a, w) = (c.answer-answer.ensures.answers_compare, c.answer-answer.ensures.tail_kept) in a _ _ _ _ (lent) (cleared_after (omega arith) (omega arith) (all_kept _ 0) w c.clear-2.ensures)

@@ -6,4 +6,4 @@ pub refine_alone-requires : goal.refine_alone-requires
 refine_alone-requires c = let d = c.requires in record { sound_table = d.0; column_value = (refl, refl, d.1) }
 
 pub returns : goal.returns
-returns c = let r = c.refine_alone.ensures in (r.refined_alone.last, r.tail_kept)
+returns c = (c.refine_alone.ensures.refined_alone.last, c.refine_alone.ensures.tail_kept)

@@ -12,7 +12,7 @@ smallest-requires c = record { sound_table = (image c.requires.0 c.read-shape.en
 pub returns-in-Done : goal.returns-in-Done
 returns-in-Done c = let p = c.requires in
     let made = image p.0 c.read-shape.ensures c.build-built.ensures c.enum_told-1.given.1 in
-    let (s, u) = c.smallest.ensures in
+    let (s, u) = (c.smallest.ensures.canonical, c.smallest.ensures.tail_kept) in
     answered c.read-shape.ensures c.build-built.ensures (omega arith) u (λ b w k. compiled (record { lent = p.1; short = p.0.short }) p.0.sized made.few_classes made.few_sets s.0 (recognised made s.0 s.1) s.2 k)
 
 pub returns-in-Classes : goal.returns-in-Classes

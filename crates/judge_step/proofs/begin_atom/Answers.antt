@@ -14,7 +14,7 @@ pub returns-then-b-eq46 : goal.returns-then-b-eq46
 returns-then-b-eq46 c = let a = c.args in record { begins = begin_dot a.b a.place c.requires.1 c.if-b-eq46.true c.read_as-then-b-eq46.ensures.read_as; bounded = search rules }
 
 pub returns-then-b-eq91 : goal.returns-then-b-eq91
-returns-then-b-eq91 c = let a = c.args in record { begins = begin_class a.b a.place c.requires.1 c.if-b-eq91.true c.read_as-class.ensures.read_as c.read_as-class.ensures.bounded.1; bounded = search rules }
+returns-then-b-eq91 c = let a = c.args in record { begins = begin_class a.b a.place c.requires.1 c.if-b-eq91.true c.read_as-class.ensures.read_as c.read_as-class.ensures.deep_value; bounded = search rules }
 
 pub returns-then-b-eq40 : goal.returns-then-b-eq40
 returns-then-b-eq40 c = let a = c.args in record { begins = begin_group a.b a.place c.requires.1 c.if-b-eq40.true c.nest.ensures.nests; bounded = search rules }

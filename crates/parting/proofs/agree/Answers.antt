@@ -12,9 +12,8 @@ byte : (c : tie.After-shared-slice-known3) (i : ℕ) → get_or c.before.before.
 byte c i = omega (arith, c.shared-slice-known3.given i)
 
 pub returns-then-agree_rows : goal.returns-then-agree_rows
-returns-then-agree_rows c = let d = c.requires.each_kind in
-    record {
-      yes = λ e. led_all _ _ _ row_width d.0.0 d.1.1.2 (c.agree_rows.ensures.yes c.if-agree_rows.true) (c.agree_rooms.ensures.yes e);
+returns-then-agree_rows c = record {
+      yes = λ e. led_all _ _ _ row_width c.requires.each_kind.0 c.requires.p_le_q.2 (c.agree_rows.ensures.yes c.if-agree_rows.true) (c.agree_rooms.ensures.yes e);
       no = λ e g. c.agree_rooms.ensures.no e (λ i l m. g.there _ (byte c i));
     }
 

@@ -13,10 +13,10 @@ pub loop-i-init : goal.loop-i-init
 loop-i-init c = (search rules, λ i h l. absurd (omega arith))
 
 pub step-y-requires : goal.step-y-requires
-step-y-requires c = let d = c.requires in record { sound_table = d.sound_table; q_bound = d.p_bound.0 }
+step-y-requires c = record { sound_table = c.requires.sound_table; q_bound = c.requires.p_bound.0 }
 
 pub step-z-requires : goal.step-z-requires
-step-z-requires c = let d = c.requires in record { sound_table = d.sound_table; q_bound = d.p_bound.1 }
+step-z-requires c = record { sound_table = c.requires.sound_table; q_bound = c.requires.p_bound.1 }
 
 pub bounds-part-y : goal.bounds-part-y
 bounds-part-y c = let d = c.requires.sound_table in

@@ -12,7 +12,7 @@ use Rattle.parting.proofs.agree_rows.Goals as goal
 use Rattle.parting.proofs.agree_rows.Goals.{else-part-x, then-part-x}
 
 pub loop-i-init : goal.loop-i-init
-loop-i-init c = let d = c.requires in (search rules, d.cell_rows.row _ (omega (arith, d.p_le_q)), d.cell_rows.row _ (omega arith), holds (λ i h l. absurd (omega arith)))
+loop-i-init c = (search rules, c.requires.cell_rows.row _ (omega (arith, c.requires.p_le_q)), c.requires.cell_rows.row _ (omega arith), holds (λ i h l. absurd (omega arith)))
 
 pub bounds-part-x : goal.bounds-part-x
 bounds-part-x c =

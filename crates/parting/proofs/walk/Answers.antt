@@ -11,71 +11,69 @@ use Rattle.parting.proofs.walk.Goals as goal
 
 pub offset_bounds-part-q : goal.offset_bounds-part-q
 offset_bounds-part-q c =
-    let few : c.args.q < both_limit = let d = c.requires in omega (arith, d.each_kind.1.1.0.0, d.sound_table.0.few_states, d.sound_table.1.few_states) in
+    let few : c.args.q < both_limit = omega (arith, c.requires.q_bound.0, c.requires.sound_table.0.few_states, c.requires.sound_table.1.few_states) in
     omega (arith, few)
 
 pub bounds-part-q : goal.bounds-part-q
 bounds-part-q c =
-    let few : c.args.q < both_limit = let d = c.requires in omega (arith, d.each_kind.1.1.0.0, d.sound_table.0.few_states, d.sound_table.1.few_states) in
+    let few : c.args.q < both_limit = omega (arith, c.requires.q_bound.0, c.requires.sound_table.0.few_states, c.requires.sound_table.1.few_states) in
     omega (arith, few)
 
 pub overflow_cast-h : goal.overflow_cast-h
 overflow_cast-h c =
-    let few : c.args.q < both_limit = let d = c.requires in omega (arith, d.each_kind.1.1.0.0, d.sound_table.0.few_states, d.sound_table.1.few_states) in
-    omega (arith, c.requires.each_kind.1.1.0.2, few)
+    let few : c.args.q < both_limit = omega (arith, c.requires.q_bound.0, c.requires.sound_table.0.few_states, c.requires.sound_table.1.few_states) in
+    omega (arith, c.requires.q_bound.2, few)
 
 pub loop-p-init : goal.loop-p-init
 loop-p-init c = inl refl
 
 pub agree-requires : goal.agree-requires
 agree-requires c =
-    let in-part : (c.loop-p.p < c.args.q) × (get_or c.args.part.now c.loop-p.p 0 ≡ get_or c.args.part.now c.args.q 0) = let d = c.requires.each_kind.1.1 in facing_in _ _ _ d.0.1 _ d.1 d.0.2 _ c.loop-p.invariant in
-    let d = c.requires in let (l, e) = in-part in
-    (d.sound_table, (d.each_kind.0, (d.each_kind.1.0, (omega (arith, l), d.each_kind.1.1.0.0, e))))
+    let in-part : (c.loop-p.p < c.args.q) × (get_or c.args.part.now c.loop-p.p 0 ≡ get_or c.args.part.now c.args.q 0) = facing_in _ _ _ c.requires.q_bound.1 _ c.requires.chain c.requires.q_bound.2 _ c.loop-p.invariant in
+    let (l, e) = in-part in
+    (c.requires.sound_table, (c.requires.each_kind, (c.requires.cell_rows, (omega (arith, l), c.requires.q_bound.0, e))))
 
 pub offset_bounds-link-p : goal.offset_bounds-link-p
 offset_bounds-link-p c =
-    let few : c.args.q < both_limit = let d = c.requires in omega (arith, d.each_kind.1.1.0.0, d.sound_table.0.few_states, d.sound_table.1.few_states) in
-    let in-part : (c.loop-p.p < c.args.q) × (get_or c.args.part.now c.loop-p.p 0 ≡ get_or c.args.part.now c.args.q 0) = let d = c.requires.each_kind.1.1 in facing_in _ _ _ d.0.1 _ d.1 d.0.2 _ c.loop-p.invariant in
+    let few : c.args.q < both_limit = omega (arith, c.requires.q_bound.0, c.requires.sound_table.0.few_states, c.requires.sound_table.1.few_states) in
+    let in-part : (c.loop-p.p < c.args.q) × (get_or c.args.part.now c.loop-p.p 0 ≡ get_or c.args.part.now c.args.q 0) = facing_in _ _ _ c.requires.q_bound.1 _ c.requires.chain c.requires.q_bound.2 _ c.loop-p.invariant in
     omega (arith, few, (in-part).0)
 
 pub bounds-link-p : goal.bounds-link-p
 bounds-link-p c =
-    let few : c.args.q < both_limit = let d = c.requires in omega (arith, d.each_kind.1.1.0.0, d.sound_table.0.few_states, d.sound_table.1.few_states) in
-    let in-part : (c.loop-p.p < c.args.q) × (get_or c.args.part.now c.loop-p.p 0 ≡ get_or c.args.part.now c.args.q 0) = let d = c.requires.each_kind.1.1 in facing_in _ _ _ d.0.1 _ d.1 d.0.2 _ c.loop-p.invariant in
+    let few : c.args.q < both_limit = omega (arith, c.requires.q_bound.0, c.requires.sound_table.0.few_states, c.requires.sound_table.1.few_states) in
+    let in-part : (c.loop-p.p < c.args.q) × (get_or c.args.part.now c.loop-p.p 0 ≡ get_or c.args.part.now c.args.q 0) = facing_in _ _ _ c.requires.q_bound.1 _ c.requires.chain c.requires.q_bound.2 _ c.loop-p.invariant in
     omega (arith, few, (in-part).0)
 
 pub overflow_cast-p : goal.overflow_cast-p
 overflow_cast-p c =
     let more : let s = c.args in
     ChainTried (Agree (both s.a.now s.b.now).next s.part.now) s.part.now (get_or s.part.now s.q 0) s.q (get_or s.link.now c.loop-p.p 0)
-    × (Agree (both s.a.now s.b.now).next s.part.now (get_or s.part.now s.q 0) s.q → ⊥) = let d = c.requires.each_kind.1.1 in facing_more _ _ _ d.0.1 _ d.1 d.0.2 _ c.loop-p.invariant (c.agree.ensures.no (not-true _ c.loop-p-test.true-raw)) in
-    let few : c.args.q < both_limit = let d = c.requires in omega (arith, d.each_kind.1.1.0.0, d.sound_table.0.few_states, d.sound_table.1.few_states) in
-    let d = c.requires.each_kind.1.1.0 in omega (arith, chain_low _ _ _ _ _ d.2 (more).0.is, few)
+    × (Agree (both s.a.now s.b.now).next s.part.now (get_or s.part.now s.q 0) s.q → ⊥) = facing_more _ _ _ c.requires.q_bound.1 _ c.requires.chain c.requires.q_bound.2 _ c.loop-p.invariant (c.agree.ensures.no (not-true _ c.loop-p-test.true-raw)) in
+    let few : c.args.q < both_limit = omega (arith, c.requires.q_bound.0, c.requires.sound_table.0.few_states, c.requires.sound_table.1.few_states) in
+    let d = c.requires.q_bound in omega (arith, chain_low _ _ _ _ _ d.2 (more).0.is, few)
 
 pub returns-then-p-eq0 : goal.returns-then-p-eq0
 returns-then-p-eq0 c =
     let more : let s = c.args in
     ChainTried (Agree (both s.a.now s.b.now).next s.part.now) s.part.now (get_or s.part.now s.q 0) s.q (get_or s.link.now c.loop-p.p 0)
-    × (Agree (both s.a.now s.b.now).next s.part.now (get_or s.part.now s.q 0) s.q → ⊥) = let d = c.requires.each_kind.1.1 in facing_more _ _ _ d.0.1 _ d.1 d.0.2 _ c.loop-p.invariant (c.agree.ensures.no (not-true _ c.loop-p-test.true-raw)) in
-    let d = c.requires.each_kind.1.1 in
+    × (Agree (both s.a.now s.b.now).next s.part.now (get_or s.part.now s.q 0) s.q → ⊥) = facing_more _ _ _ c.requires.q_bound.1 _ c.requires.chain c.requires.q_bound.2 _ c.loop-p.invariant (c.agree.ensures.no (not-true _ c.loop-p-test.true-raw)) in
     let (t, n) = more in
-    place_none _ _ _ d.0.1 _ d.1 _ t (omega (arith, c.if-p-eq0.true)) n
+    place_none _ _ _ c.requires.q_bound.1 _ c.requires.chain _ t (omega (arith, c.if-p-eq0.true)) n
 
 pub loop-p-smaller : goal.loop-p-smaller
 loop-p-smaller c =
     let more : let s = c.args in
     ChainTried (Agree (both s.a.now s.b.now).next s.part.now) s.part.now (get_or s.part.now s.q 0) s.q (get_or s.link.now c.loop-p.p 0)
-    × (Agree (both s.a.now s.b.now).next s.part.now (get_or s.part.now s.q 0) s.q → ⊥) = let d = c.requires.each_kind.1.1 in facing_more _ _ _ d.0.1 _ d.1 d.0.2 _ c.loop-p.invariant (c.agree.ensures.no (not-true _ c.loop-p-test.true-raw)) in
-    let d = c.requires.each_kind.1.1 in
-    facing_less _ _ _ d.0.1 _ d.1 d.0.2 _ c.loop-p.invariant ((more).0.is (omega (arith, c.if-p-eq0.false)))
+    × (Agree (both s.a.now s.b.now).next s.part.now (get_or s.part.now s.q 0) s.q → ⊥) = facing_more _ _ _ c.requires.q_bound.1 _ c.requires.chain c.requires.q_bound.2 _ c.loop-p.invariant (c.agree.ensures.no (not-true _ c.loop-p-test.true-raw)) in
+    facing_less _ _ _ c.requires.q_bound.1 _ c.requires.chain c.requires.q_bound.2 _ c.loop-p.invariant ((more).0.is (omega (arith, c.if-p-eq0.false)))
 
 pub loop-p-preserved : goal.loop-p-preserved
 loop-p-preserved c =
     let more : let s = c.args in
     ChainTried (Agree (both s.a.now s.b.now).next s.part.now) s.part.now (get_or s.part.now s.q 0) s.q (get_or s.link.now c.loop-p.p 0)
-    × (Agree (both s.a.now s.b.now).next s.part.now (get_or s.part.now s.q 0) s.q → ⊥) = let d = c.requires.each_kind.1.1 in facing_more _ _ _ d.0.1 _ d.1 d.0.2 _ c.loop-p.invariant (c.agree.ensures.no (not-true _ c.loop-p-test.true-raw)) in
+    × (Agree (both s.a.now s.b.now).next s.part.now (get_or s.part.now s.q 0) s.q → ⊥) = facing_more _ _ _ c.requires.q_bound.1 _ c.requires.chain c.requires.q_bound.2 _ c.loop-p.invariant (c.agree.ensures.no (not-true _ c.loop-p-test.true-raw)) in
     let (t, n) = more in inr (omega (arith, c.if-p-eq0.false), t, n)
 
 pub returns : goal.returns
-returns c = let d = c.requires.each_kind.1.1 in facing_found _ _ _ d.0.1 _ d.1 d.0.2 _ c.loop-p.invariant (c.agree.ensures.yes (not-false _ c.loop-p-test.false-raw))
+returns c = facing_found _ _ _ c.requires.q_bound.1 _ c.requires.chain c.requires.q_bound.2 _ c.loop-p.invariant (c.agree.ensures.yes (not-false _ c.loop-p-test.false-raw))

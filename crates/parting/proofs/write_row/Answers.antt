@@ -19,7 +19,7 @@ overflow_mul-row c =
     omega (arith, fits)
 
 pub step-requires : goal.step-requires
-step-requires c = let d = c.requires in record { sound_table = d.sound_table; q_bound = d.q_bound.0.0 }
+step-requires c = record { sound_table = c.requires.sound_table; q_bound = c.requires.q_bound.0 }
 
 pub overflow_add-row : goal.overflow_add-row
 overflow_add-row c =
@@ -36,19 +36,19 @@ loop-i-preserved c =
 
 pub offset_bounds-rows-q : goal.offset_bounds-rows-q
 offset_bounds-rows-q c =
-    let few : c.args.q < both_limit = omega (arith, c.requires.q_bound.0.0, c.requires.sound_table.0.few_states, c.requires.sound_table.1.few_states) in
+    let few : c.args.q < both_limit = omega (arith, c.requires.q_bound.0, c.requires.sound_table.0.few_states, c.requires.sound_table.1.few_states) in
     omega (arith, few)
 
 pub bounds-rows-q : goal.bounds-rows-q
 bounds-rows-q c =
-    let few : c.args.q < both_limit = omega (arith, c.requires.q_bound.0.0, c.requires.sound_table.0.few_states, c.requires.sound_table.1.few_states) in
-    omega (arith, few, c.requires.q_bound.1.0)
+    let few : c.args.q < both_limit = omega (arith, c.requires.q_bound.0, c.requires.sound_table.0.few_states, c.requires.sound_table.1.few_states) in
+    omega (arith, few, c.requires.both_limit_in_bounds.0)
 
 pub returns : goal.returns
 returns c =
-    let few : c.args.q < both_limit = omega (arith, c.requires.q_bound.0.0, c.requires.sound_table.0.few_states, c.requires.sound_table.1.few_states) in
+    let few : c.args.q < both_limit = omega (arith, c.requires.q_bound.0, c.requires.sound_table.0.few_states, c.requires.sound_table.1.few_states) in
     let s = c.args in
-    let d = c.requires.q_bound.1 in
+    let d = c.requires.both_limit_in_bounds in
     let l = c.loop-i in let e : l.i ≡ 0 = omega (arith, c.loop-i-test.false) in
     let m = s.rows.now in (
       record {

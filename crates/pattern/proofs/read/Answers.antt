@@ -11,4 +11,4 @@ pub expr-all-requires : goal.expr-all-requires
 expr-all-requires c = (ready_text c.requires.faultless, search rules)
 
 pub returns : goal.returns
-returns c = let s = c.requires in reading s.faultless s.clear.0 s.clear.1 c.fill.ensures c.expr-all.ensures refl refl c.load-last.ensures
+returns c = reading c.requires.faultless c.requires.clear.0 c.requires.clear.1 c.fill.ensures c.expr-all.ensures refl refl c.load-last.ensures

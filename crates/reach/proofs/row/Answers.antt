@@ -24,7 +24,7 @@ pub bounds-image-at : goal.bounds-image-at
 bounds-image-at c = omega (arith, row_fits c.args.k c.args.q c.requires.0.classes (omega (arith, c.requires.0.row, c.requires.0.states)))
 
 pub loop-c-preserved : goal.loop-c-preserved
-loop-c-preserved c = let e = c.seat-i.ensures in elim c.if-i-m.branch [ then-i-m v ↦ rw v.1 (search (rules, filling_new), e.guessed.new v.if-i-m.true (omega (arith, e.seated.most, c.if-i-eq-STATES.false))) | else-i-m v ↦ rw v.1 (search (rules, filling_old), e.guessed.old) ]
+loop-c-preserved c = elim c.if-i-m.branch [ then-i-m v ↦ rw v.1 (search (rules, filling_new), c.seat-i.ensures.guessed.new v.if-i-m.true (omega (arith, c.seat-i.ensures.seated.most, c.if-i-eq-STATES.false))) | else-i-m v ↦ rw v.1 (search (rules, filling_old), c.seat-i.ensures.guessed.old) ]
 
 pub returns : goal.returns
 returns c = record { guesses_for = c.loop-c.invariant.1; row_answer = search (rules, filling_end) }

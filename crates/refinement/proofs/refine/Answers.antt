@@ -21,15 +21,15 @@ cleared {n} w z x = elim (split x n) [ inl h ↦ w.inside x h | inr h ↦ w.outs
 
 pub note_all-requires : goal.note_all-requires
 note_all-requires c =
-    let part-long : c.tried-m.result ≡ length (take c.tried-m.result c.args.least.now) = let k = c.requires.kinds.0 in sym (length-take-le _ _ (omega (arith, k.long, c.tried-m.ensures.2 k.are.few))) in
+    let part-long : c.tried-m.result ≡ length (take c.tried-m.result c.args.least.now) = let k = c.requires.kinds in sym (length-take-le _ _ (omega (arith, k.long, c.tried-m.ensures.2 k.are.few))) in
     let bytes : let s = c.args in
-    let least = take c.tried-m.result s.least.now in EachKind (both s.a.now s.b.now).next least × (row_width ≤ length least) = let k = c.requires.kinds.0 in
+    let least = take c.tried-m.result s.least.now in EachKind (both s.a.now s.b.now).next least × (row_width ≤ length least) = let k = c.requires.kinds in
     let e = c.tried-m.ensures in
     (each_kind k _ e.0 (e.2 k.are.few), omega (arith, e.1, part-long)) in
-    let d = c.requires in record { first_states = (d.first_states, (bytes).1); both_limit_in_bounds = (d.kinds.1.1, refl) }
+    record { first_states = (c.requires.first_states, (bytes).1); both_limit_in_bounds = (c.requires.both_limit_in_bounds, refl) }
 
 pub begin-touched-requires : goal.begin-touched-requires
-begin-touched-requires c = let d = c.requires in (d.first_states, (c.note_all.ensures.sources, d.kinds.1.0.0))
+begin-touched-requires c = record { first_states = c.requires.first_states; sources = c.note_all.ensures.sources; part_value = c.requires.part_value.0 }
 
 pub adopt-requires : goal.adopt-requires
 adopt-requires c =
@@ -37,8 +37,8 @@ adopt-requires c =
     (states, refl, refl)
 
 pub loop-from-init : goal.loop-from-init
-loop-from-init c = let z = c.requires.kinds.1.0 in
-    let b = c.begin-touched.ensures in let w = c.adopt.ensures in (b.part_len.0, w.written.size, rw z.1 refl, rw z.2 refl, rw (z.1, z.2) (after_none _ _ b.part_len.1), b.steady, w.written.inside, w.written_2.size, cleared w.written_2 (λ x h. zeros both_limit x))
+loop-from-init c = let z = c.requires.part_value in
+    (c.begin-touched.ensures.part_len.0, c.adopt.ensures.written.size, rw z.1 refl, rw z.2 refl, rw (z.1, z.2) (after_none _ _ c.begin-touched.ensures.part_len.1), c.begin-touched.ensures.steady, c.adopt.ensures.written.inside, c.adopt.ensures.written_2.size, cleared c.adopt.ensures.written_2 (λ x h. zeros both_limit x))
 
 pub overflow_add-r : goal.overflow_add-r
 overflow_add-r c =
@@ -56,13 +56,13 @@ pub round-requires : goal.round-requires
 round-requires c =
     let start : tie.After-tried invariant-loop decreases-loop = c in
     let d = (start).before.before.before.before.before.requires in
-    let v = c.loop-from.invariant in
-    (d.0, (bytes (start), (c.note_all.ensures.cell_rows.0, (after_own _ d.0.closed _ _ _ _ v.4, ((v.1, v.2, v.3), (v.5, (v.6, (v.7, v.8))))))))
+let v = c.loop-from.invariant in
+record { first_states = d.0; each_kind = bytes (start); cell_rows = c.note_all.ensures.cell_rows.0; named = after_own _ d.0.closed _ _ _ _ v.4; next_len = (v.1, v.2, v.3); steady = v.5; by_index = v.6; link_len = (v.7, v.8) }
 
 pub adopt-requires-in-loop-from : goal.adopt-requires-in-loop-from
 adopt-requires-in-loop-from c =
     let start : tie.After-tried invariant-loop decreases-loop = c in
-    (states (start), c.loop-from.invariant.0, c.round.ensures.births.1.1.1.0)
+    (states (start), c.loop-from.invariant.0, c.round.ensures.link_len_2.0)
 
 pub overflow_add-r-in-loop-from : goal.overflow_add-r-in-loop-from
 overflow_add-r-in-loop-from c =
@@ -82,36 +82,36 @@ loop-from-preserved c =
     let a = (start).before.before.before.before.before.args in
     let d = (start).before.before.before.before.before.requires.0 in
     let v = c.loop-from.invariant in
-    let e = c.round.ensures in let w = c.adopt-in-loop-from.ensures in (
-      w.written.size ∙ v.0,
-      e.renamed.long ∙ v.1,
-      e.births.0.parent_long ∙ v.2,
-      e.births.0.born_long ∙ v.3,
-      after_copied _ w.written.inside (after_more _ d.closed _ _ _ _ v.4 _ _ _ e.renamed.named e.births.0 (e.births.1.1.0.yes c.loop-from-test.true)),
-      steady_next {M = side a.a.now a.b.now a.n} d.closed c.note_all.ensures.sources e.renamed e.births.1.0 w.written,
-      λ q h. sym (w.written.inside q h),
-      w.written_2.size ∙ e.births.1.1.1.0,
-      cleared w.written_2 e.births.1.1.1.1,
+    (
+      c.adopt-in-loop-from.ensures.written.size ∙ v.0,
+      c.round.ensures.renamed.long ∙ v.1,
+      c.round.ensures.births.parent_long ∙ v.2,
+      c.round.ensures.births.born_long ∙ v.3,
+      after_copied _ c.adopt-in-loop-from.ensures.written.inside (after_more _ d.closed _ _ _ _ v.4 _ _ _ c.round.ensures.renamed.named c.round.ensures.births (c.round.ensures.decides.yes c.loop-from-test.true)),
+      steady_next {M = side a.a.now a.b.now a.n} d.closed c.note_all.ensures.sources c.round.ensures.renamed c.round.ensures.stayed c.adopt-in-loop-from.ensures.written,
+      λ q h. sym (c.adopt-in-loop-from.ensures.written.inside q h),
+      c.adopt-in-loop-from.ensures.written_2.size ∙ c.round.ensures.link_len_2.0,
+      cleared c.adopt-in-loop-from.ensures.written_2 c.round.ensures.link_len_2.1,
     )
 
 pub returns : goal.returns
 returns c =
     let start : tie.After-tried invariant-loop decreases-loop = c in
     let d = (start).before.before.before.before.before.requires.0 in
-    let v = c.loop-from.invariant in
-    let e = c.round.ensures in (after_done _ d.closed _ _ _ _ v.4 _ _ _ e.renamed.named e.births.0 (e.births.1.1.0.no c.loop-from-test.false), ((v.0, e.births.0.parent_long ∙ v.2, e.births.0.born_long ∙ v.3), c.note_all.ensures.cell_rows.1))
+let v = c.loop-from.invariant in
+record { refined = after_done _ d.closed _ _ _ _ v.4 _ _ _ c.round.ensures.renamed.named c.round.ensures.births (c.round.ensures.decides.no c.loop-from-test.false); part_len = (v.0, c.round.ensures.births.parent_long ∙ v.2, c.round.ensures.births.born_long ∙ v.3); tail_kept = c.note_all.ensures.cell_rows.1 }
 
 pub tried-m-requires : goal.tried-m-requires
 tried-m-requires c = tt
 
 pub slice_bounds-note_all-end : goal.slice_bounds-note_all-end
 slice_bounds-note_all-end c =
-    let part-long : c.tried-m.result ≡ length (take c.tried-m.result c.args.least.now) = let k = c.requires.kinds.0 in sym (length-take-le _ _ (omega (arith, k.long, c.tried-m.ensures.2 k.are.few))) in
+    let part-long : c.tried-m.result ≡ length (take c.tried-m.result c.args.least.now) = let k = c.requires.kinds in sym (length-take-le _ _ (omega (arith, k.long, c.tried-m.ensures.2 k.are.few))) in
     part-long
 
 pub slice_bounds-round-end : goal.slice_bounds-round-end
 slice_bounds-round-end c =
-    let part-long : c.tried-m.result ≡ length (take c.tried-m.result c.args.least.now) = let k = c.requires.kinds.0 in sym (length-take-le _ _ (omega (arith, k.long, c.tried-m.ensures.2 k.are.few))) in
+    let part-long : c.tried-m.result ≡ length (take c.tried-m.result c.args.least.now) = let k = c.requires.kinds in sym (length-take-le _ _ (omega (arith, k.long, c.tried-m.ensures.2 k.are.few))) in
     part-long
 
 pub shape_of-rows : goal.shape_of-rows

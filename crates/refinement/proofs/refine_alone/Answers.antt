@@ -9,13 +9,13 @@ pub kinds-bytes-requires : goal.kinds-bytes-requires
 kinds-bytes-requires c = let s = c.requires.sound_table in record { sound_table = (s, s); most = rw c.head-machine.ensures.1 (most_classes s) }
 
 pub columns-requires : goal.columns-requires
-columns-requires c = let d = c.requires in (d.sound_table, (least_bytes c.kinds-bytes.ensures, d.column_value.0))
+columns-requires c = record { sound_table = c.requires.sound_table; count_le_byte_values = least_bytes c.kinds-bytes.ensures; column_value = c.requires.column_value.0 }
 
 pub refine-rounds-requires : goal.refine-rounds-requires
-refine-rounds-requires c = let d = c.requires in (rw c.head-machine.ensures.0 (side_left _ _ d.sound_table d.sound_table), (c.kinds-bytes.ensures, ((d.column_value.1, refl, refl), d.column_value.2)))
+refine-rounds-requires c = record { first_states = rw c.head-machine.ensures.0 (side_left _ _ c.requires.sound_table c.requires.sound_table); kinds = c.kinds-bytes.ensures; part_value = (c.requires.column_value.1, refl, refl); both_limit_in_bounds = c.requires.column_value.2 }
 
 pub returns : goal.returns
 returns c = (
   left_alone c.requires.sound_table c.kinds-bytes.ensures c.columns.ensures (rw c.head-machine.ensures.0 at c.refine-rounds.ensures.refined),
-  c.refine-rounds.ensures.part_len.1,
+  c.refine-rounds.ensures.tail_kept,
 )

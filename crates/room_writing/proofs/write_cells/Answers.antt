@@ -14,8 +14,8 @@ pub overflow_cast-order : goal.overflow_cast-order
 overflow_cast-order c = omega (arith, c.requires.states_in.inside c.loop-q.q c.loop-q-test.true (omega arith), c.requires.states_in.sound.few_states)
 
 pub write_row-requires : goal.write_row-requires
-write_row-requires c = let d = c.requires in let l = c.loop-q in let h = c.loop-q-test.true in
-record { sound_table = (d.states_in.sound, d.states_in.inside l.q h (omega arith)); k_le_class_limit = (d.k_le_class_limit.0, d.k_le_class_limit.1, omega (arith, cells_fit l.invariant h d.states_in.few d.k_le_class_limit.0, d.k_le_class_limit.2, l.invariant.stored.size)) }
+write_row-requires c = let l = c.loop-q in let h = c.loop-q-test.true in
+record { sound_table = (c.requires.states_in.sound, c.requires.states_in.inside l.q h (omega arith)); k_le_class_limit = (c.requires.k_le_class_limit.0, c.requires.k_le_class_limit.1, omega (arith, cells_fit l.invariant h c.requires.states_in.few c.requires.k_le_class_limit.0, c.requires.k_le_class_limit.2, l.invariant.stored.size)) }
 
 pub overflow_add-at : goal.overflow_add-at
 overflow_add-at c = omega (arith, cells_fit c.loop-q.invariant c.loop-q-test.true c.requires.states_in.few c.requires.k_le_class_limit.0)

@@ -19,8 +19,8 @@ pub head-wide-requires : goal.head-wide-requires
 head-wide-requires c = omega (arith, c.requires.sound_table.0.long)
 
 pub overflow_mul-row : goal.overflow_mul-row
-overflow_mul-row c = let g = c.requires in let k : c.head-wide.result.classes ≤ class_limit = omega (arith, g.sound_table.0.few_classes, c.head-wide.ensures.1) in
-    omega (arith, mul-le-mul g.sound_table.1 k, g.sound_table.0.few_states)
+overflow_mul-row c = let k : c.head-wide.result.classes ≤ class_limit = omega (arith, c.requires.sound_table.0.few_classes, c.head-wide.ensures.1) in
+    omega (arith, mul-le-mul c.requires.sound_table.1 k, c.requires.sound_table.0.few_states)
 
 pub loop-c-init : goal.loop-c-init
 loop-c-init c = (search rules, stored_from _ _ _)

@@ -12,24 +12,23 @@ use Rattle.round.proofs.round.Goals as goal
 pub looked-q-requires : goal.looked-q-requires
 looked-q-requires c =
     let few : c.args.n ≤ both_limit = let d = c.requires.first_states in omega (arith, d.few, d.left.few_states, d.right.few_states) in
-    ((omega arith, few), (c.requires.each_kind.1.1.0, seen_none _ _))
+    record { at_le_n = (omega arith, few); named = c.requires.named; seen = seen_none _ _ }
 
 pub loop-q-init : goal.loop-q-init
 loop-q-init c =
     let few : c.args.n ≤ both_limit = let d = c.requires.first_states in omega (arith, d.few, d.left.few_states, d.right.few_states) in
     let a = c.args in
-    let d = c.requires.each_kind.1.1 in
-    let ((l, h, g), (s, v)) = c.looked-q.ensures in (
+    let ((l, h, g), (s, v)) = (c.looked-q.ensures.lower_bound, (c.looked-q.ensures.seen_2, c.looked-q.ensures.by_index)) in (
       h,
       g,
       s,
-      come_gap (few) d.1.0.0 d.0 d.1.1.0 d.1.1.1.0 l h v
-          (record { passed = passed_none _ _ _ _ _ _ _ d.1.1.1.1.0 d.1.1.1.1.1; stayed = stayed_none a.part.now a.next.now a.from.now }),
+      come_gap (few) c.requires.next_len.0 c.requires.named c.requires.steady c.requires.by_index l h v
+          (record { passed = passed_none _ _ _ _ _ _ _ c.requires.link_len.0 c.requires.link_len.1; stayed = stayed_none a.part.now a.next.now a.from.now }),
     )
 
 pub walk-p-requires : goal.walk-p-requires
-walk-p-requires c = let d = c.requires in let l = c.loop-q in let h = c.loop-q-test.true in
-    ((d.first_states.left, d.first_states.right), (d.each_kind.0, (record { long = omega (arith, h, d.each_kind.1.0.long); row = λ q k. d.each_kind.1.0.row q (omega (arith, h, k)) }, ((omega (arith, h, d.first_states.few), d.each_kind.1.1.0 l.q h, l.invariant.1 h), l.invariant.3.passed.chain))))
+walk-p-requires c = let l = c.loop-q in let h = c.loop-q-test.true in
+record { sound_table = (c.requires.first_states.left, c.requires.first_states.right); each_kind = c.requires.each_kind; cell_rows = record { long = omega (arith, h, c.requires.cell_rows.long); row = λ q k. c.requires.cell_rows.row q (omega (arith, h, k)) }; q_bound = (omega (arith, h, c.requires.first_states.few), c.requires.named l.q h, l.invariant.1 h); chain = l.invariant.3.passed.chain }
 
 pub shift-requires : goal.shift-requires
 shift-requires c =
@@ -41,25 +40,24 @@ pub looked-q-requires-in-loop-q : goal.looked-q-requires-in-loop-q
 looked-q-requires-in-loop-q c =
     let few : c.args.n ≤ both_limit = let d = c.requires.first_states in omega (arith, d.few, d.left.few_states, d.right.few_states) in
     let low : (c.loop-q.q < both_limit) × (get_or c.args.part.now c.loop-q.q 0 < c.loop-q.q) = (omega (arith, c.loop-q-test.true, few), c.loop-q.invariant.1 c.loop-q-test.true) in
-    ((omega (arith, c.loop-q-test.true), few), (c.requires.each_kind.1.1.0, seen_past c.loop-q.invariant.2 (low).1))
+    record { at_le_n = (omega (arith, c.loop-q-test.true), few); named = c.requires.named; seen = seen_past c.loop-q.invariant.2 (low).1 }
 
 pub loop-q-preserved : goal.loop-q-preserved
 loop-q-preserved c =
     let few : c.args.n ≤ both_limit = let d = c.requires.first_states in omega (arith, d.few, d.left.few_states, d.right.few_states) in
     let low : (c.loop-q.q < both_limit) × (get_or c.args.part.now c.loop-q.q 0 < c.loop-q.q) = (omega (arith, c.loop-q-test.true, few), c.loop-q.invariant.1 c.loop-q-test.true) in
-    let come : let a = c.args in let i = c.if-p-h in Come (both a.a.now a.b.now).next a.part.now a.next.now i.next i.link a.parent.now i.parent a.born.now i.born a.from.now a.r i.opened i.stirred (c.loop-q.q + 1) = let d = c.requires.each_kind.1.1 in
-    let g = d.1.0 in
+    let come : let a = c.args in let i = c.if-p-h in Come (both a.a.now a.b.now).next a.part.now a.next.now i.next i.link a.parent.now i.parent a.born.now i.born a.from.now a.r i.opened i.stirred (c.loop-q.q + 1) = let g = c.requires.next_len in
     let l = c.loop-q in let v = l.invariant.3 in
     let p = v.passed in
     let t = c.loop-q-test.true in
     let z = low in
-    let f = c.walk-p in let same = d.1.1.1.0 l.q t in
+    let f = c.walk-p in let same = c.requires.by_index l.q t in
     ⊎_elim
     (λ w.
     let n = w.6.ensures.0 in
     let o = w.6.ensures.1.0 w.7.taken in
     come_as (w.8 ∙ o.links) (w.9 ∙ rw o.own at n) (w.10 ∙ o.parents) (w.11 ∙ o.births) w.12 w.13
-    (record { passed = passed_opened _ _ _ _ _ _ _ _ _ _ _ _ z.0 g.0 p (rw o.own at f.ensures) z.1 (d.0 l.q t).like g.1 g.2; stayed = stayed_moved v.stayed l.q }))
+    (record { passed = passed_opened _ _ _ _ _ _ _ _ _ _ _ _ z.0 g.0 p (rw o.own at f.ensures) z.1 (c.requires.named l.q t).like g.1 g.2; stayed = stayed_moved v.stayed l.q }))
     (⊎_elim
     (λ w.
     let o = w.6.ensures.1.1 w.7.left in
@@ -68,14 +66,13 @@ loop-q-preserved c =
     (λ w. come_as w.1 w.2 w.3 w.4 w.5 w.6
     (record { passed = passed_stays _ _ _ _ _ _ _ _ _ _ _ _ z.0 g.0 p same (rw w.0.left at f.ensures); stayed = stayed_still v.stayed (p.named.kept l.q (omega arith) ∙ same) })))
     c.if-p-h.branch in
-    let d = c.requires.each_kind.1.1 in
-    let ((l, h, g), (s, v)) = c.looked-q-in-loop-q.ensures in
-    (h, g, s, come_gap (few) d.1.0.0 d.0 d.1.1.0 d.1.1.1.0 l h v (come))
+    let ((l, h, g), (s, v)) = (c.looked-q-in-loop-q.ensures.lower_bound, (c.looked-q-in-loop-q.ensures.seen_2, c.looked-q-in-loop-q.ensures.by_index)) in
+    (h, g, s, come_gap (few) c.requires.next_len.0 c.requires.named c.requires.steady c.requires.by_index l h v (come))
 
 pub returns : goal.returns
 returns c = let e : c.loop-q.q ≡ c.args.n = omega (arith, c.loop-q-test.false, c.loop-q.invariant.0) in
-    let v = rw e at c.loop-q.invariant.3 in
-    (v.passed.named, (v.passed.births, (v.stayed, (v.passed.some, (v.passed.link_long, v.passed.zero)))))
+let v = rw e at c.loop-q.invariant.3 in
+record { renamed = v.passed.named; births = v.passed.births; stayed = v.stayed; decides = v.passed.some; link_len_2 = (v.passed.link_long, v.passed.zero) }
 
 pub offset_bounds-part-q : goal.offset_bounds-part-q
 offset_bounds-part-q c =

@@ -11,7 +11,7 @@ use Rattle.signs.proofs.begin.Goals as goal
 use Rattle.signs.proofs.begin.Goals.{else-mark-m, else-other-eq0, then-mark-m, then-other-eq0}
 
 pub loop-q-init : goal.loop-q-init
-loop-q-init c = (search rules, rw c.requires.sources.1 (begun_none _ _), rw c.requires.sources.1 (stayed_none _ _ _))
+loop-q-init c = (search rules, rw c.requires.part_value (begun_none _ _), rw c.requires.part_value (stayed_none _ _ _))
 
 pub overflow_cast-part : goal.overflow_cast-part
 overflow_cast-part c = let d = c.requires.first_states in
@@ -34,6 +34,6 @@ loop-q-preserved c = let d = c.requires.first_states in
 
 pub returns : goal.returns
 returns c = let a = c.args in
-let d = c.requires in let i = c.loop-q.invariant in
+let i = c.loop-q.invariant in
 let e : c.loop-q.q ≡ a.n = omega arith in
-record { part_len = (i.1.long, begun_all _ _ _ _ _ d.first_states (rw e at i.1)); steady = steady_first {M = side a.a.now a.b.now a.n} d.first_states.closed d.sources.0 (zeros both_limit) (rw e at i.2) }
+record { part_len = (i.1.long, begun_all _ _ _ _ _ c.requires.first_states (rw e at i.1)); steady = steady_first {M = side a.a.now a.b.now a.n} c.requires.first_states.closed c.requires.sources (zeros both_limit) (rw e at i.2) }

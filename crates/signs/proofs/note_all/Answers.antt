@@ -11,8 +11,8 @@ pub loop-q-init : goal.loop-q-init
 loop-q-init c = (search rules, (record { long = omega arith; row = λ q h. absurd (omega arith) }, all_kept _ _), (search rules, λ q x h. absurd (omega arith)))
 
 pub write_row-requires : goal.write_row-requires
-write_row-requires c = let d = c.requires in let v = c.loop-q.invariant.1 in
-    ((d.first_states.0.left, d.first_states.0.right), ((omega (arith, c.loop-q-test.true, d.first_states.0.few), d.first_states.1), (omega (arith, v.1.size, d.both_limit_in_bounds.0), v.0)))
+write_row-requires c = let v = c.loop-q.invariant.1 in
+record { sound_table = (c.requires.first_states.0.left, c.requires.first_states.0.right); q_bound = (omega (arith, c.loop-q-test.true, c.requires.first_states.0.few), c.requires.first_states.1); both_limit_in_bounds = (omega (arith, v.1.size, c.requires.both_limit_in_bounds.0), v.0) }
 
 pub note-requires : goal.note-requires
 note-requires c = let d = c.requires.first_states.0 in

@@ -12,15 +12,15 @@ arrivals-n-requires c = let r = c.refine_alone-kinds.ensures.refined_alone in re
 
 pub merge-k-requires : goal.merge-k-requires
 merge-k-requires c = let s = c.requires.0 in
-    let r = c.refine_alone-kinds.ensures.refined_alone in
-    let k = r.bytes.are in
-    (rows s k r.columns r.parts c.arrivals-n.ensures, ((k.few, (ready s k r.columns r.parts).columns, distinct k r.columns), (refl, refl)))
+let r = c.refine_alone-kinds.ensures.refined_alone in
+let k = r.bytes.are in
+record { states_in = rows s k r.columns r.parts c.arrivals-n.ensures; kinds_le_byte_values = (k.few, (ready s k r.columns r.parts).columns, distinct k r.columns); sort_len = (refl, refl) }
 
 pub of_bytes-class-requires : goal.of_bytes-class-requires
 of_bytes-class-requires c = c.requires.0
 
 pub returns : goal.returns
-returns c = let (r, w) = c.refine_alone-kinds.ensures in
+returns c = let (r, w) = (c.refine_alone-kinds.ensures.refined_alone, c.refine_alone-kinds.ensures.tail_kept) in
     (planned c.requires.0 r.bytes.are r.columns r.parts c.arrivals-n.ensures c.merge-k.ensures c.of_bytes-class.ensures, w)
 
 pub shape_of-words : goal.shape_of-words

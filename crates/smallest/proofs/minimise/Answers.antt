@@ -36,6 +36,6 @@ clear-requires-2 c =
 pub returns : goal.returns
 returns c =
     let lent : let s = c.args in MinimiseLent s.from.now s.to.now s.bytes.now s.words.now = let l = c.is_lent.ensures.yes (not-false _ c.if-not-is_lent.false-raw) in record { from_long = c.if-from-lt-ROOM.false; room_long = l.room_long; scratch = l.scratch } in
-    let (r, w) = c.smallest.ensures in
+    let (r, w) = (c.smallest.ensures.canonical, c.smallest.ensures.tail_kept) in
     minimised (lent) (c.is_sound.ensures.yes (not-false _ c.if-not-is_sound.false-raw)) r.0 r.1 r.2
     (cleared_after (omega arith) (omega arith) (all_kept _ 0) w c.clear-2.ensures)

@@ -25,7 +25,7 @@ pub overflow_sub-i : goal.overflow_sub-i
 overflow_sub-i c = omega (arith, held_some c.held-count.ensures)
 
 pub begin-requires : goal.begin-requires
-begin-requires c = let h = c.held-count.ensures in (c.requires, ((omega arith, omega arith, λ j x. held_below c.requires h j (omega (arith, held_some h))), length-replicate {A = ℕ} state_limit 0))
+begin-requires c = let h = c.held-count.ensures in record { sound_table = c.requires; i_nonzero = (omega arith, omega arith, λ j x. held_below c.requires h j (omega (arith, held_some h))); least_len = length-replicate {A = ℕ} state_limit 0 }
 
 pub loop-i-init : goal.loop-i-init
 loop-i-init c = let h = held_some c.held-count.ensures in (omega (arith, h), omega (arith, h), c.begin.ensures)
@@ -33,7 +33,7 @@ loop-i-init c = let h = held_some c.held-count.ensures in (omega (arith, h), ome
 pub lower-requires : goal.lower-requires
 lower-requires c =
     let four-left : c.loop-i.i + four ≤ c.held-count.result = omega (arith, c.loop-i.invariant.0, c.loop-i-test.true) in
-    let s = c.requires in let h = c.held-count.ensures in let f = four-left in (s, ((omega (arith, f, h.few), λ j x. held_below s h j (omega arith)), c.loop-i.invariant.2))
+    let s = c.requires in let h = c.held-count.ensures in let f = four-left in record { sound_table = s; four_bound = (omega (arith, f, h.few), λ j x. held_below s h j (omega arith)); lowered = c.loop-i.invariant.2 }
 
 pub loop-i-preserved : goal.loop-i-preserved
 loop-i-preserved c =

@@ -11,8 +11,8 @@ pub loop-i-init : goal.loop-i-init
 loop-i-init c = below_none _
 
 pub bounds-least-i : goal.bounds-least-i
-bounds-least-i c = let s = c.requires in let k = s.by_index.0.1.are in
-    omega (arith, untried s.spells k c.walk.invariant c.if-at-long.false c.loop-i.i c.loop-i.invariant, k.few)
+bounds-least-i c = let k = c.requires.by_index.1.are in
+    omega (arith, untried c.requires.spells k c.walk.invariant c.if-at-long.false c.loop-i.i c.loop-i.invariant, k.few)
 
 pub step-y-requires : goal.step-y-requires
 step-y-requires c = let s = c.requires.spells in record { sound_table = (s.left, s.right); q_bound = c.walk.invariant.left }
@@ -39,11 +39,11 @@ pub loop-i-smaller : goal.loop-i-smaller
 loop-i-smaller c = omega (arith, element-copy-out-x c)
 
 pub loop-i-preserved : goal.loop-i-preserved
-loop-i-preserved c = let s = c.requires in tried_more s.spells s.by_index.0.1.are c.walk.invariant c.if-at-long.false c.loop-i.i c.loop-i.invariant
+loop-i-preserved c = tried_more c.requires.spells c.requires.by_index.1.are c.walk.invariant c.if-at-long.false c.loop-i.i c.loop-i.invariant
     c.step-y.ensures c.step-z.ensures c.climb.ensures c.climb-in-loop-i.ensures c.if-climb.false
 
 pub bounds-word-at : goal.bounds-word-at
-bounds-word-at c = let w = c.walk.invariant in omega (arith, w.within, w.kept.size, c.if-at-long.false, c.requires.by_index.1)
+bounds-word-at c = let w = c.walk.invariant in omega (arith, w.within, w.kept.size, c.if-at-long.false, c.requires.long_in_bounds)
 
 pub overflow_add-at : goal.overflow_add-at
 overflow_add-at c = omega (arith, c.walk.invariant.within)
@@ -52,10 +52,10 @@ pub walk-smaller : goal.walk-smaller
 walk-smaller c = omega (arith, c.walk.invariant.within, c.if-at-long.false)
 
 pub walk-preserved : goal.walk-preserved
-walk-preserved c = let s = c.requires in let w = c.walk.invariant in
-    writing_more s.spells s.by_index.0.1.are w c.if-at-long.false c.loop-i.i c.loop-i.invariant
+walk-preserved c = let w = c.walk.invariant in
+    writing_more c.requires.spells c.requires.by_index.1.are w c.if-at-long.false c.loop-i.i c.loop-i.invariant
     c.step-y.ensures c.step-z.ensures c.climb.ensures c.climb-in-loop-i.ensures
-    (omega (arith, w.within, c.if-at-long.false, s.by_index.1)) c.if-climb.true
+    (omega (arith, w.within, c.if-at-long.false, c.requires.long_in_bounds)) c.if-climb.true
 
 pub shape_of-word : goal.shape_of-word
 shape_of-word c = c.walk.invariant.kept.size

@@ -10,7 +10,7 @@ pub loop-i-init : goal.loop-i-init
 loop-i-init c = (search rules, least_none _ _ _ _)
 
 pub next_way-requires : goal.next_way-requires
-next_way-requires c = let s = c.requires in record { sound_table = (s.sound_table, c.head-k.ensures.1); q_bound = (s.held_classes.1, held_below s.sound_table s.held_classes.0 c.loop-i.i c.loop-i-test.true (omega arith)) }
+next_way-requires c = record { sound_table = (c.requires.sound_table, c.head-k.ensures.1); q_bound = (c.requires.q_bound, held_below c.requires.sound_table c.requires.held_classes c.loop-i.i c.loop-i-test.true (omega arith)) }
 
 pub loop-i-preserved : goal.loop-i-preserved
 loop-i-preserved c = (search rules, rw (c.lesser-way.ensures, c.next_way.ensures) (least_more c.loop-i.invariant.1))

@@ -6,11 +6,11 @@ use Rattle.way_writing.proofs.Sinking.{sweep_begins, sweep_passes, sweep_lowers,
 use Rattle.way_writing.proofs.sweep.Goals as goal
 
 pub loop-q-init : goal.loop-q-init
-loop-q-init c = rw c.head-q.ensures.0 (sweep_begins c.requires.held_classes.1)
+loop-q-init c = rw c.head-q.ensures.0 (sweep_begins c.requires.sinking)
 
 pub least-ahead-requires : goal.least-ahead-requires
-least-ahead-requires c = let s = c.requires in let v = c.loop-q.invariant in
-    (s.sound_table, (s.held_classes.0, omega (arith, v.few)))
+least-ahead-requires c = let v = c.loop-q.invariant in
+record { sound_table = c.requires.sound_table; held_classes = c.requires.held_classes; q_bound = omega (arith, v.few) }
 
 pub overflow_cast-ways : goal.overflow_cast-ways
 overflow_cast-ways c = let l = c.loop-q in omega (arith, l.invariant.sinking.most (l.q - 1) (omega (arith, l.invariant.few)))
@@ -19,10 +19,10 @@ pub overflow_add-ways : goal.overflow_add-ways
 overflow_add-ways c = let l = c.loop-q in omega (arith, l.invariant.sinking.most (l.q - 1) (omega (arith, l.invariant.few)))
 
 pub loop-q-preserved-then-ahead-ways : goal.loop-q-preserved-then-ahead-ways
-loop-q-preserved-then-ahead-ways c = let s = c.requires in sweep_lowers (search rules) s.held_classes.0 c.least-ahead.ensures c.loop-q.invariant s.sound_table c.if-ahead-ways.true
+loop-q-preserved-then-ahead-ways c = sweep_lowers (search rules) c.requires.held_classes c.least-ahead.ensures c.loop-q.invariant c.requires.sound_table c.if-ahead-ways.true
 
 pub loop-q-preserved : goal.loop-q-preserved
-loop-q-preserved c = sweep_passes (search rules) c.requires.held_classes.0 c.least-ahead.ensures c.loop-q.invariant (search rules)
+loop-q-preserved c = sweep_passes (search rules) c.requires.held_classes c.least-ahead.ensures c.loop-q.invariant (search rules)
 
 pub returns : goal.returns
 returns c = let e : c.loop-q.q ≡ 0 = search rules in sweep_ends (rw e at c.loop-q.invariant)
