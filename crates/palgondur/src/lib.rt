@@ -1,6 +1,6 @@
 // The C boundary: each public operation as a function of slices and numbers. A slice is a pointer and a length, as Rust passes `&[u8]`. The answer's number is
-// returned, and the numbers that come with it (a place, a length, rounds) are written through references, as 0 where the answer has none; marks of the 256 byte values, 1
-// for yes and 0 for no, only with an answer that has them. Nothing happens here: each function forwards to the one of a small crate over its operation (`compile_numbers` and so on), which takes the answer apart. The contract of
+// returned, and the numbers that come with it (a place, a length, rounds) are written through references, as 0 where the answer has none. Nothing
+// happens here: each function forwards to the one of a small crate over its operation (`compile_numbers` and so on), which takes the answer apart. The contract of
 // both is the operation's own relation, with what is returned and written in the place of the answer.
 #![tactic(auto)]
 
@@ -10,12 +10,8 @@ ghost use Rattle.scope.specs.Operations.Match.{Matches};
 ghost use Rattle.scope.specs.Operations.Minimise.{Minimises};
 ghost use Rattle.scope.specs.Operations.Pack.{Packs};
 ghost use Rattle.scope.specs.Operations.Unpack.{Unpacks};
-ghost use Rattle.telling.specs.Expected.{MatchTells};
 ghost use Rattle.desk_rules.specs.Open.{Opens};
-ghost use Rattle.desk_telling.specs.Pass.{Passes};
 ghost use Rattle.desk_rules.specs.Press.{Presses};
-
-use scope::Machine;
 
 // Compiling: 0 Done, 1 ROOM, 2 LONG, 3 to 6 SYNTAX, RANGE, DEPTH, POSITIONS with their place, 7 CLASSES, 8 STATES.
 #[unsafe(no_mangle)]
@@ -44,17 +40,12 @@ pub extern "C" fn palgondur_minimise(
     minimise_numbers::minimise(from, to, bytes, words)
 }
 
-// Matching: 0 Accepted, 64 Dead with its place and the marks of the bytes that could have stood there, 65 Unfinished, 1 ROOM, 9 FORM.
+// Matching: 0 Accepted, 64 Dead with its place, 65 Unfinished, 1 ROOM, 9 FORM.
 #[unsafe(no_mangle)]
-pub extern "C" fn palgondur_match(
-    room: &[u8],
-    text: &[u8],
-    place: &mut usize,
-    expected: &mut [u8; Machine::BYTES],
-) -> u8
-    ensures { Matches room.now text.now result place.new × MatchTells room.now text.now expected.old expected.new result place.new }
+pub extern "C" fn palgondur_match(room: &[u8], text: &[u8], place: &mut usize) -> u8
+    ensures { Matches room.now text.now result place.new }
 {
-    match_numbers::match_text(room, text, place, expected)
+    match_numbers::match_text(room, text, place)
 }
 
 // Comparing: 0 Same with rounds, 66 Separated with length and rounds, 1 ROOM, 9 FORM.
@@ -108,15 +99,10 @@ pub extern "C" fn palgondur_desk_open(count: usize, rooms: &[u8], form: &mut [u8
     desk_numbers::open_form(count, rooms, form)
 }
 
-// A key at the desk: 0 Done, 1 ROOM, 9 FORM, 10 DEAD BYTE with the marks of the bytes that could have stood there, 11 UNFINISHED, 12 LENGTH, 13 CLOSED.
+// A key at the desk: 0 Done, 1 ROOM, 9 FORM, 10 DEAD BYTE, 11 UNFINISHED, 12 LENGTH, 13 CLOSED.
 #[unsafe(no_mangle)]
-pub extern "C" fn palgondur_desk_key(
-    rooms: &[u8],
-    form: &mut [u8],
-    key: u8,
-    expected: &mut [u8; Machine::BYTES],
-) -> u8
-    ensures { Presses rooms.now form.old form.new key result × Passes rooms.now form.old key expected.old expected.new result }
+pub extern "C" fn palgondur_desk_key(rooms: &[u8], form: &mut [u8], key: u8) -> u8
+    ensures { Presses rooms.now form.old form.new key result }
 {
-    desk_numbers::press(rooms, form, key, expected)
+    desk_numbers::press(rooms, form, key)
 }

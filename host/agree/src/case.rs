@@ -4,7 +4,6 @@ use std::fmt;
 
 use second::limits;
 
-use crate::run::Outcome;
 use crate::written::written;
 
 /// The operations.
@@ -102,15 +101,12 @@ pub struct Case {
     pub bytes: Vec<u8>,
     /// The words of scratch; none in matching and at the desk.
     pub words: Vec<u64>,
-    /// The marks of the bytes expected, in matching and at the desk. Opening is not lent them: they are for the key after it.
-    pub expected: Vec<u8>,
 }
 
 impl Case {
     /// The case with buffers of the exact lengths, none of it zero.
     pub fn new(operation: Operation, reads: &[&[u8]]) -> Case {
-        let marked = operation == Operation::Match || operation.is_desk();
-        let lent = usize::from(!marked);
+        let lent = usize::from(operation != Operation::Match && !operation.is_desk());
         Case {
             operation,
             reads: reads.iter().map(|read| read.to_vec()).collect(),
@@ -118,7 +114,6 @@ impl Case {
             output: vec![0xa5; operation.output()],
             bytes: vec![0x5a; lent * limits::SCRATCH_BYTES],
             words: vec![u64::MAX; lent * limits::SCRATCH_WORDS],
-            expected: vec![0xc7; usize::from(marked) * limits::BYTES],
         }
     }
 
@@ -140,13 +135,12 @@ impl Case {
         }
     }
 
-    /// The case of the next key, on the form and the marks that this case left.
-    pub fn next(self, left: Outcome, key: u8) -> Case {
+    /// The case of the next key, on the form that this case left.
+    pub fn next(self, form: Vec<u8>, key: u8) -> Case {
         Case {
             operation: Operation::DeskKey,
             number: usize::from(key),
-            output: left.output,
-            expected: left.expected,
+            output: form,
             ..self
         }
     }
@@ -160,13 +154,11 @@ impl fmt::Display for Case {
             write!(out, " {}", written(read))?;
         }
         if self.operation.is_desk() {
-            let (form, expected) = (written(&self.output), written(&self.expected));
-            return write!(out, " {}\n  form {form}\n  marks {expected}", self.number);
+            return write!(out, " {}\n  form {}", self.number, written(&self.output));
         }
         let (output, bytes, words) = (self.output.len(), self.bytes.len(), self.words.len());
         write!(out, "\n  output {output}, scratch {bytes} and {words}")?;
-        let mut lent = self.output.iter().chain(&self.bytes).chain(&self.expected);
-        match lent.all(|&byte| byte == 0) {
+        match self.output.iter().chain(&self.bytes).all(|&byte| byte == 0) {
             true => write!(out, ", zero"),
             false => write!(out, ", dirty"),
         }

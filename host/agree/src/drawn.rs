@@ -55,17 +55,7 @@ fn lent(draw: &mut Draw, operation: Operation, reads: Vec<Vec<u8>>, exact: usize
             .into_iter()
             .map(|byte| u64::from(byte) << 40 | u64::from(byte))
             .collect(),
-        expected: Vec::new(),
     }
-}
-
-/// A case with drawn marks: ones, or what any buffer may hold. They are drawn last, and the rest of the case does not hang on them.
-fn marked(draw: &mut Draw, case: Case) -> Case {
-    let expected = match draw.below(4) {
-        0 => vec![1; limits::BYTES],
-        _ => content(draw, limits::BYTES),
-    };
-    Case { expected, ..case }
 }
 
 /// Most often the exact length, else a longer or a shorter one.
@@ -194,8 +184,7 @@ fn matching(draw: &mut Draw) -> Case {
         }
         _ => draw.walk(&machine, 24),
     };
-    let case = Case::new(Operation::Match, &[&spoilt(draw, &machine), &text]);
-    marked(draw, case)
+    Case::new(Operation::Match, &[&spoilt(draw, &machine), &text])
 }
 
 /// Two machines: any two, two of the same strings, two that differ in one cell or mark, a pattern and a changed one, or two at the bound.

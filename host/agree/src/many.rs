@@ -40,13 +40,13 @@ impl Tally {
         }
     }
 
-    /// Runs the opening of a form, and then each of the keys on the form and the marks as they were left, up to the first difference.
+    /// Runs the opening of a form, and then each of the keys on the form as it was left, up to the first difference.
     pub fn type_keys(&mut self, name: &dyn fmt::Display, opening: Case, keys: &[u8]) {
         let mut case = opening;
         let mut outcome = self.run(name, &case);
         for (&key, number) in keys.iter().zip(1..) {
             match outcome {
-                Some(left) => case = case.next(left, key),
+                Some(before) => case = case.next(before.output, key),
                 None => return,
             }
             outcome = self.run(&format_args!("{name}, key {number}"), &case);

@@ -4,9 +4,8 @@ use std::fmt;
 
 use crate::case::{form_length, Case, Operation};
 use crate::run::{both, Outcome};
-use crate::written::{read, set};
+use crate::written::read;
 use cases::samples::{hex, listed};
-use second::answer::{DEAD, DEAD_BYTE};
 use second::limits::WAY_AT;
 use second::machine::head;
 use second::sets::{Automaton, Set};
@@ -75,18 +74,7 @@ pub fn run(file: &File) -> Result<usize, String> {
 
 /// Both sides' outcome.
 fn outcome(operation: Operation, reads: &[&[u8]]) -> Result<Outcome, String> {
-    outcome_of(&Case::new(operation, reads))
-}
-
-/// Both sides' outcome of a case. Marks are written with a dead text or byte alone.
-fn outcome_of(case: &Case) -> Result<Outcome, String> {
-    let outcome = both(case).map_err(|difference| difference.to_string())?;
-    let dead = [DEAD, DEAD_BYTE].contains(&outcome.answer.0);
-    if dead || outcome.expected == case.expected {
-        Ok(outcome)
-    } else {
-        Err(format!("marks with {:?}", outcome.answer))
-    }
+    both(&Case::new(operation, reads)).map_err(|difference| difference.to_string())
 }
 
 fn bytes(field: &str) -> Result<Vec<u8>, String> {
@@ -138,17 +126,16 @@ fn packed(room: &[u8]) -> Result<(usize, usize, usize), String> {
     Ok((states, classes, length))
 }
 
-/// `PATTERN TEXT -> accepted`, `dead PLACE EXPECTED` or `unfinished`.
+/// `PATTERN TEXT -> accepted`, `dead PLACE` or `unfinished`.
 fn matched(row: &[&str]) -> Result<(), String> {
     let outcome = outcome(Operation::Match, &[&compiled(row[0])?, &bytes(row[1])?])?;
-    expect(match_words(&outcome), &row[3..])
+    expect(match_words(outcome.answer.0, outcome.answer.1), &row[3..])
 }
 
-fn match_words(outcome: &Outcome) -> String {
-    let (number, place, _) = outcome.answer;
+fn match_words(number: u8, place: usize) -> String {
     match number {
         0 => "accepted".to_string(),
-        64 => format!("dead {place} {}", set(&outcome.expected)),
+        64 => format!("dead {place}"),
         65 => "unfinished".to_string(),
         _ => format!("refused {number} {place}"),
     }

@@ -2,8 +2,6 @@
 
 use std::fmt;
 
-use second::limits::BYTES;
-
 use crate::case::{Case, Operation};
 
 /// The answer's number, and its place or length, and its rounds; 0 where it has none.
@@ -14,7 +12,6 @@ pub type Answer = (u8, usize, usize);
 pub struct Outcome {
     pub answer: Answer,
     pub output: Vec<u8>,
-    pub expected: Vec<u8>,
 }
 
 /// The two sides make different things of a case: the answers, the library's first, and in words where buffers differ.
@@ -27,19 +24,18 @@ pub struct Difference {
 
 type Compile = fn(&[u8], &mut [u8], &mut [u8], &mut [u64]) -> (u8, usize);
 type Write = fn(&[u8], &mut [u8], &mut [u8], &mut [u64]) -> u8;
-type Match = fn(&[u8], &[u8], &mut [u8; BYTES]) -> (u8, usize);
 type Compare = fn(&[u8], &[u8], &mut [u8], &mut [u8], &mut [u64]) -> Answer;
 
 /// The operations of one side.
 struct Side {
     compile: Compile,
     minimise: Write,
-    match_text: Match,
+    match_text: fn(&[u8], &[u8]) -> (u8, usize),
     compare: Compare,
     pack: Compile,
     unpack: Write,
     desk_open: fn(usize, &[u8], &mut [u8]) -> u8,
-    desk_key: fn(&[u8], &mut [u8], u8, &mut [u8; BYTES]) -> u8,
+    desk_key: fn(&[u8], &mut [u8], u8) -> u8,
 }
 
 const LIBRARY: Side = Side {
@@ -99,11 +95,6 @@ impl<T: Copy + PartialEq + fmt::Debug> Guarded<T> {
     }
 }
 
-/// The marks, of which there are as many as byte values.
-fn marks(lent: &mut [u8]) -> &mut [u8; BYTES] {
-    lent.try_into().expect("a mark for each byte value")
-}
-
 /// All that a case lends, as a copy for one side.
 #[derive(PartialEq)]
 struct Lent {
@@ -111,7 +102,6 @@ struct Lent {
     output: Guarded<u8>,
     bytes: Guarded<u8>,
     words: Guarded<u64>,
-    expected: Guarded<u8>,
 }
 
 impl Lent {
@@ -122,7 +112,6 @@ impl Lent {
             output: Guarded::new(&case.output, 0x3c),
             bytes: Guarded::new(&case.bytes, 0x99),
             words: Guarded::new(&case.words, 0x6666),
-            expected: Guarded::new(&case.expected, 0x55),
         }
     }
 
@@ -131,20 +120,17 @@ impl Lent {
         let mut reads = self.reads.iter_mut().map(|read| &*read.lent());
         let (read, other) = (reads.next().unwrap_or(&[]), reads.next().unwrap_or(&[]));
         let (output, bytes) = (self.output.lent(), self.bytes.lent());
-        let (words, expected) = (self.words.lent(), self.expected.lent());
+        let words = self.words.lent();
         let placed = |(number, place)| (number, place, 0);
         match case.operation {
             Operation::Compile => placed((side.compile)(read, output, bytes, words)),
             Operation::Minimise => ((side.minimise)(read, output, bytes, words), 0, 0),
-            Operation::Match => placed((side.match_text)(read, other, marks(expected))),
+            Operation::Match => placed((side.match_text)(read, other)),
             Operation::Compare => (side.compare)(read, other, output, bytes, words),
             Operation::Pack => placed((side.pack)(read, output, bytes, words)),
             Operation::Unpack => ((side.unpack)(read, output, bytes, words), 0, 0),
             Operation::DeskOpen => ((side.desk_open)(case.number, read, output), 0, 0),
-            Operation::DeskKey => {
-                let key = case.number as u8;
-                ((side.desk_key)(read, output, key, marks(expected)), 0, 0)
-            }
+            Operation::DeskKey => ((side.desk_key)(read, output, case.number as u8), 0, 0),
         }
     }
 
@@ -156,7 +142,6 @@ impl Lent {
             self.output.differs(&second.output, "output"),
             self.bytes.differs(&second.bytes, "scratch byte"),
             self.words.differs(&second.words, "scratch word"),
-            self.expected.differs(&second.expected, "mark"),
         ];
         reads.chain(places).flatten().collect()
     }
@@ -167,11 +152,8 @@ pub fn both(case: &Case) -> Result<Outcome, Box<Difference>> {
     let (mut library, mut second) = (Lent::new(case), Lent::new(case));
     let answers = (library.run(case, &LIBRARY), second.run(case, &SECOND));
     if answers.0 == answers.1 && library == second {
-        return Ok(Outcome {
-            answer: answers.0,
-            output: second.output.lent().to_vec(),
-            expected: second.expected.lent().to_vec(),
-        });
+        let (answer, output) = (answers.0, second.output.lent().to_vec());
+        return Ok(Outcome { answer, output });
     }
     Err(Box::new(Difference {
         case: case.clone(),

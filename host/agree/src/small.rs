@@ -94,7 +94,6 @@ pub fn buffers(operation: Operation, reads: &[&[u8]], exact: usize) -> Vec<Case>
         for read in &mut case.reads[..rooms] {
             read.resize(length(limits::ROOM), dirt);
         }
-        case.expected.fill(dirt);
         if operation != Operation::Match {
             case.output = vec![dirt; length(exact)];
             case.bytes = vec![dirt; length(limits::SCRATCH_BYTES)];

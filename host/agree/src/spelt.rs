@@ -27,23 +27,17 @@ pub fn case(operation: Operation, bytes: &[u8]) -> Case {
     let reads: Vec<&[u8]> = reads.iter().map(|read| &read[..]).collect();
     let mut case = Case::new(operation, &reads);
     if operation == Operation::Match {
-        case.expected.fill(dirt(buffers >> 6));
         return case;
     }
     let exact = match operation {
         Operation::Pack => form_length(usize::from(reads[0][0]), usize::from(reads[0][1])),
         _ => operation.output(),
     };
-    let dirt = dirt(buffers >> 6);
+    let dirt = [0xa5, 0, 0xff, 1][usize::from(buffers >> 6)];
     case.output = vec![dirt; length(exact, buffers)];
     case.bytes = vec![dirt; length(limits::SCRATCH_BYTES, buffers >> 2)];
     case.words = vec![u64::from(dirt) << 13; length(limits::SCRATCH_WORDS, buffers >> 4)];
     case
-}
-
-/// What is in a buffer, by two bits.
-fn dirt(bits: u8) -> u8 {
-    [0xa5, 0, 0xff, 1][usize::from(bits & 3)]
 }
 
 /// The exact length, or by two bits one less or some more.
@@ -166,12 +160,10 @@ impl Spelt<'_> {
         let mut form = self.typed(fields, &rooms);
         rooms.resize(length(rooms.len(), buffers), 0xe1);
         form.resize(length(form.len(), buffers >> 2), 0x1e);
-        let mut case = match operation {
+        match operation {
             Operation::DeskOpen => Case::opening(count, &rooms, &form),
             _ => Case::pressing(&rooms, &form, count as u8),
-        };
-        case.expected.fill(dirt(buffers >> 4));
-        case
+        }
     }
 
     /// A form that was typed, if it can be opened, with up to three bytes changed.

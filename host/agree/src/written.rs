@@ -37,29 +37,6 @@ pub fn written(bytes: &[u8]) -> String {
     field
 }
 
-/// The field of a set of bytes, by a mark for each byte value: bytes and ranges in brackets, ascending. What is no mark stands in braces.
-pub fn set(marks: &[u8]) -> String {
-    let item = |at: usize| match at as u8 {
-        byte @ (b'-' | b'[' | b']') => format!("%{byte:02x}"),
-        byte => one(byte),
-    };
-    let (mut field, mut at) = (String::new(), 0);
-    while at < marks.len() {
-        let mark = marks[at];
-        let run = marks[at..].iter().take_while(|&&next| next == mark).count();
-        let last = at + run - 1;
-        field += &match (mark, run) {
-            (0, _) => String::new(),
-            (1, 1) => item(at),
-            (1, 2) => item(at) + &item(last),
-            (1, _) => format!("{}-{}", item(at), item(last)),
-            _ => format!("{{{mark}}}"),
-        };
-        at += run;
-    }
-    format!("[{field}]")
-}
-
 /// The bytes of a field, if it is one.
 pub fn read(field: &str) -> Option<Vec<u8>> {
     let mut bytes = Vec::new();

@@ -5,7 +5,6 @@ use crate::ours::room_of;
 use crate::plain;
 use crate::re2::Matcher;
 use crate::subjects::{Pattern, Subject};
-use palgondur::limits::BYTES;
 use palgondur::raw;
 
 /// Letters of the strings that are tried, and how long these are at most.
@@ -33,7 +32,7 @@ fn check_pattern(pattern: &Pattern, texts: &[Vec<u8>]) {
         Matcher::new(&pattern.text),
     );
     for text in texts {
-        let ours = raw::match_text(&room, text, &mut [0; BYTES]).0 == 0;
+        let ours = raw::match_text(&room, text).0 == 0;
         // Sound: the room was compiled.
         let loops = [plain::safe(&room, text), unsafe {
             plain::unchecked(&room, text)

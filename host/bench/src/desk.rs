@@ -17,13 +17,12 @@ pub fn measure() {
     for fields in FIELDS {
         let rooms = room_of(&"[0-9A-F]".repeat(32)).repeat(fields);
         let room = &rooms[..limits::ROOM];
-        let mut expected = [0; limits::BYTES];
         let runners = vec![
             keys(&rooms, fields, &[b'0', Desk::TAKE_BACK], 0),
             keys(&rooms, fields, b"G", 10),
             keys(&rooms, fields, &[Desk::CLOSE], 11),
             runner(|| black_box(&rooms).chunks(limits::ROOM).map(plain::read).max()),
-            runner(|| raw::match_text(black_box(room), black_box(TYPED), &mut expected)),
+            runner(|| raw::match_text(black_box(room), black_box(TYPED))),
         ];
         let mut times = race(&SHORT, runners);
         times[0] /= 2.0;
@@ -34,15 +33,14 @@ pub fn measure() {
 
 /// A runner of keys that leave the form as it was, each with this answer.
 fn keys<'a>(rooms: &'a [u8], fields: usize, keys: &'a [u8], answer: u8) -> Runner<'a> {
-    let (mut form, mut expected) = ([0; limits::ENTRY], [0; limits::BYTES]);
+    let mut form = [0; limits::ENTRY];
     assert_eq!(raw::desk_open(fields, rooms, &mut form), 0);
     for &digit in TYPED {
-        assert_eq!(raw::desk_key(rooms, &mut form, digit, &mut expected), 0);
+        assert_eq!(raw::desk_key(rooms, &mut form, digit), 0);
     }
     runner(move || {
         for &key in keys {
-            let number = raw::desk_key(black_box(rooms), &mut form, key, &mut expected);
-            assert_eq!(number, answer);
+            assert_eq!(raw::desk_key(black_box(rooms), &mut form, key), answer);
         }
     })
 }

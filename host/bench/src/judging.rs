@@ -4,7 +4,7 @@ use crate::clock::{black_box, race, runner, SHORT};
 use crate::ours::room_of;
 use crate::subjects::drawn;
 use crate::table::{self, Row, Target};
-use palgondur::limits::{BYTES, CLASSES, STATES};
+use palgondur::limits::{CLASSES, STATES};
 use palgondur::raw;
 
 /// The nanoseconds that judging the largest room may take.
@@ -26,11 +26,11 @@ pub fn measure() -> Target {
 }
 
 fn row(pattern: &str, room: &[u8]) -> Row {
-    let mut expected = [0; BYTES];
-    let (number, _) = raw::match_text(room, b"", &mut expected);
-    assert_ne!(number, 9, "{pattern} is not sound");
-    let judge = runner(|| raw::match_text(black_box(room), b"", &mut expected));
-    let times = race(&SHORT, vec![judge]);
+    assert_ne!(raw::match_text(room, b"").0, 9, "{pattern} is not sound");
+    let times = race(
+        &SHORT,
+        vec![runner(|| raw::match_text(black_box(room), b""))],
+    );
     Row {
         what: format!("judge, {} states, {} classes", room[0], room[1]),
         pattern: pattern.into(),

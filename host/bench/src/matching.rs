@@ -6,7 +6,6 @@ use crate::plain;
 use crate::re2::Matcher;
 use crate::subjects::Subject;
 use crate::table::{self, Row, Target};
-use palgondur::limits::BYTES;
 use palgondur::raw;
 
 /// Bytes of the long text and of the short one.
@@ -62,7 +61,7 @@ fn long(subject: &Subject) -> Vec<Row> {
             runner(|| unsafe { plain::unchecked(black_box(room), black_box(text)) }),
         ),
     ];
-    if raw::match_text(room, text, &mut [0; BYTES]).0 == 0 {
+    if raw::match_text(room, text).0 == 0 {
         assert!(re2.accepts(text));
         others.push((RE2, runner(|| re2.accepts(black_box(text)))));
     }
@@ -90,10 +89,7 @@ fn rows(
     others: Vec<(&str, Runner)>,
 ) -> Vec<Row> {
     let (names, mut runners): (Vec<&str>, Vec<Runner>) = others.into_iter().unzip();
-    let mut expected = [0; BYTES];
-    runners.push(runner(|| {
-        raw::match_text(black_box(room), black_box(text), &mut expected)
-    }));
+    runners.push(runner(|| raw::match_text(black_box(room), black_box(text))));
     let times = race(effort, runners);
     let row = |(i, name): (usize, &&str)| Row {
         what: format!("match, {}, beside {name}", answer(room, text)),
@@ -106,7 +102,7 @@ fn rows(
 
 /// The answer of the match, in words.
 fn answer(room: &[u8], text: &[u8]) -> String {
-    match raw::match_text(room, text, &mut [0; BYTES]) {
+    match raw::match_text(room, text) {
         (0, _) => "accepted".into(),
         (raw::DEAD, place) => format!("dead at {place}"),
         (raw::UNFINISHED, _) => "unfinished".into(),

@@ -5,13 +5,18 @@
 //! field.
 
 use crate::form::{Field, Form};
-use crate::keys::{is_text, Keys, Paste, Press, DELETE, LEAVE, SHOW};
+use crate::keys::{Keys, Paste, Press};
 use crate::names;
 use crate::screen::{Mark, Shown, View};
-use crate::table::Table;
-use crate::wanted::Wanted;
-use palgondur::{limits, ByteSet, Desk, KeyRefusal};
+use palgondur::{limits, Desk, KeyRefusal};
 use unicode_width::UnicodeWidthStr;
+
+/// The keys that are the display's own: Ctrl-C leaves the form, Ctrl-R shows what is masked, or masks it again.
+const LEAVE: u8 = 0x03;
+const SHOW: u8 = 0x12;
+
+/// What most terminals send for Backspace.
+const DELETE: u8 = 0x7F;
 
 /// What the first Ctrl-C asks.
 const ASKS: &str = "Ctrl-C again leaves the form and drops what was entered; any other key goes on";
@@ -27,22 +32,10 @@ pub enum Stand {
     Left,
 }
 
-/// A press that was refused.
-struct Refused {
-    name: String,
-    /// Where it stood among others, if it did.
-    places: Vec<String>,
-    /// What is said of it.
-    said: String,
-}
-
 /// A form that is being filled in.
-#[derive(Clone)]
 pub struct Entry {
     form: Form,
     desk: Desk,
-    /// The machine of each field.
-    tables: Vec<Table>,
     keys: Keys,
     /// What is said of the last keys, and whether one of them was refused.
     message: String,
@@ -58,12 +51,10 @@ pub struct Entry {
 impl Entry {
     /// An entry of a form, all of its fields empty; or in a sentence why there is none.
     pub fn new(form: Form) -> Result<Entry, String> {
-        let machines = form.machines()?;
-        let desk = Desk::open(&machines).map_err(|refusal| refusal.to_string())?;
+        let desk = form.open()?;
         Ok(Entry {
             form,
             desk,
-            tables: machines.into_iter().map(Table::new).collect(),
             keys: Keys::new(),
             message: String::new(),
             refused: false,
@@ -93,7 +84,7 @@ impl Entry {
                     Press::Byte(LEAVE) => self.asked = true,
                     press => {
                         let answer = self.press(&press, alone);
-                        refusal = answer.err().map(|refused| (count, refused));
+                        refusal = answer.err().map(|(name, reason)| (count, name, reason));
                     }
                 }
             }
@@ -101,7 +92,14 @@ impl Entry {
         self.refused = refusal.is_some();
         self.refusals += usize::from(self.refused);
         match refusal {
-            Some((place, refused)) => self.message = refused.message(place, count),
+            Some((_, name, reason)) if count == 1 => {
+                self.message = format!("{name} refused: {reason}");
+            }
+            Some((place, name, reason)) => {
+                let whole = format!("{name}, {place} of {count} that came at once, refused");
+                let rest = count - place;
+                self.message = format!("{whole}: {reason}; {rest} behind it not tried");
+            }
             None if self.asked => self.message = ASKS.to_string(),
             None => self.say_unfinished(),
         }
@@ -111,9 +109,9 @@ impl Entry {
         }
     }
 
-    /// Judges a press.
-    fn press(&mut self, press: &Press, alone: bool) -> Result<(), Refused> {
-        let refused = |name, reason: &str| Err(Refused::new(name, format!("refused: {reason}")));
+    /// Judges a press. If it is refused: its name, and why.
+    fn press(&mut self, press: &Press, alone: bool) -> Result<(), (String, String)> {
+        let refused = |name: String, reason: &str| Err((name, reason.to_string()));
         let key = match press {
             Press::Paste(paste) => return self.paste(paste),
             Press::Other(bytes) => {
@@ -149,41 +147,36 @@ impl Entry {
                 }
                 Ok(())
             }
-            Err(refusal) => Err(Refused::new(names::byte(key), self.said(refusal))),
+            Err(refusal) => Err((names::byte(key), self.reason(refusal))),
         }
     }
 
-    /// What is said of a key that the desk refused.
-    fn said(&self, refusal: KeyRefusal) -> String {
+    /// Why the desk refused a key; of a text that is not finished, what it wants.
+    fn reason(&self, refusal: KeyRefusal) -> String {
         match (refusal, self.desk.open_field()) {
-            (KeyRefusal::DeadByte(expected), Some(open)) => {
-                let wanted = self.wanted(open, expected);
-                format!("can't stand here: {}", wanted.instead())
-            }
-            (KeyRefusal::Unfinished, Some(open)) => {
-                let wanted = self.wanted(open, self.desk.can_follow(open));
-                let notes = [wanted.least(" to finish"), wanted.next()];
-                format!("refused: {}", joined(notes))
-            }
-            _ => format!("refused: {refusal}"),
+            (KeyRefusal::Unfinished, Some(open)) => self.wants(open, " to finish"),
+            _ => refusal.to_string(),
         }
     }
 
     /// Types a pasted text, byte by byte up to the first that is refused.
-    fn paste(&mut self, paste: &Paste) -> Result<(), Refused> {
+    fn paste(&mut self, paste: &Paste) -> Result<(), (String, String)> {
         let length = paste.length;
         for (taken, &byte) in paste.bytes.iter().enumerate() {
-            let answer = match is_text(byte) {
-                false => Err("refused: no text that is typed has it".to_string()),
-                true => self.desk.key(byte).map_err(|refusal| self.said(refusal)),
+            let answer = match byte {
+                LEAVE | SHOW | b'\t' | Desk::TAKE_BACK | Desk::CLOSE | 0x1B | DELETE.. => {
+                    Err("no text that is typed has it".to_string())
+                }
+                _ => self.desk.key(byte).map_err(|refusal| refusal.to_string()),
             };
-            if let Err(said) = answer {
+            if let Err(reason) = answer {
                 let (place, rest) = (taken + 1, length - taken - 1);
-                return Err(Refused {
-                    name: names::first(&paste.bytes[taken..]),
-                    places: vec![format!("byte {place} of {length} in the paste")],
-                    said: format!("{said}; {taken} taken, {rest} behind it not tried"),
-                });
+                let name = names::first(&paste.bytes[taken..]);
+                let name = format!("{name}, byte {place} of {length} in the paste,");
+                return Err((
+                    name,
+                    format!("{reason}; {taken} taken, {rest} behind it not tried"),
+                ));
             }
         }
         self.message = format!("pasted, {length} of {length} bytes taken");
@@ -244,7 +237,7 @@ impl Entry {
         }
     }
 
-    /// What a field wants, in its author's words, counted, and by its keys; and how many keys it refused.
+    /// What a field wants, in its author's words and counted, and how many keys it refused.
     fn hint(&self, number: usize) -> String {
         let Field { label, hint, .. } = &self.form.fields[number];
         let refusals = match self.refusals {
@@ -252,21 +245,24 @@ impl Entry {
             1 => "1 key refused".to_string(),
             many => format!("{many} keys refused"),
         };
-        let wanted = self.wanted(number, self.desk.can_follow(number));
-        let notes = joined([wanted.least(""), wanted.next(), refusals]);
+        let mut notes = vec![self.wants(number, ""), refusals];
+        notes.retain(|note| !note.is_empty());
         match &notes[..] {
-            "" => format!("{label}: {hint}"),
-            _ => format!("{label}: {hint} ({notes})"),
+            [] => format!("{label}: {hint}"),
+            _ => format!("{label}: {hint} ({})", notes.join("; ")),
         }
     }
 
-    /// What a field wants, if these bytes can follow. They are left out where they would tell what is masked.
-    fn wanted(&self, number: usize, bytes: ByteSet) -> Wanted {
-        let length = self.desk.text(number).map_or(0, <[u8]>::len);
-        let more = self.desk.fewest_more(number);
-        let is_seen = self.clear || !self.form.fields[number].masked;
-        let may_tell = is_seen || self.tables[number].is_alike(length, more);
-        Wanted::new(more, limits::TEXT - length, may_tell.then_some(bytes))
+    /// How many bytes more a field wants at least, and for what; nothing, if its text is accepted.
+    fn wants(&self, number: usize, what: &str) -> String {
+        let room = limits::TEXT - self.desk.text(number).map_or(0, <[u8]>::len);
+        match (self.desk.fewest_more(number), room) {
+            (None, _) => "no text is accepted".to_string(),
+            (Some(0), _) => String::new(),
+            (Some(more), _) if more <= room => format!("at least {more} more{what}"),
+            (Some(more), 0) => format!("at least {more} more{what}, but room for none"),
+            (Some(more), _) => format!("at least {more} more{what}, but room for only {room}"),
+        }
     }
 
     /// A field, as it is shown.
@@ -302,36 +298,6 @@ impl Entry {
         };
         fields.iter().enumerate().map(line).collect()
     }
-}
-
-impl Refused {
-    /// A press by its name, and what is said of it.
-    fn new(name: String, said: String) -> Refused {
-        Refused {
-            name,
-            places: Vec::new(),
-            said,
-        }
-    }
-
-    /// The message, if it was in this place of so many presses that came at once.
-    fn message(mut self, place: usize, count: usize) -> String {
-        if count > 1 {
-            let at_once = format!("{place} of {count} that came at once");
-            self.places.push(at_once);
-            self.said += &format!("; {} behind it not tried", count - place);
-        }
-        let mut words = vec![self.name];
-        words.extend(self.places);
-        let comma = if words.len() > 1 { "," } else { "" };
-        format!("{}{comma} {}", words.join(", "), self.said)
-    }
-}
-
-/// The notes that say something, one after the other.
-fn joined(notes: impl IntoIterator<Item = String>) -> String {
-    let notes = notes.into_iter().filter(|note| !note.is_empty());
-    notes.collect::<Vec<_>>().join("; ")
 }
 
 /// A text as it is printed: each byte as itself, or as the escape that a pattern has for it; masked, as stars.

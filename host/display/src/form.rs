@@ -1,13 +1,13 @@
 //! The form as its author wrote it: a title and the fields, from a file in TOML.
 
-use palgondur::Machine;
+use palgondur::{Desk, Machine};
 use serde::de::IgnoredAny;
 use serde::Deserialize;
 use std::collections::BTreeMap;
 use toml::Spanned;
 
 /// A form.
-#[derive(Clone, Deserialize, Debug)]
+#[derive(Deserialize, Debug)]
 #[serde(deny_unknown_fields)]
 pub struct Form {
     /// What stands above the fields.
@@ -18,7 +18,7 @@ pub struct Form {
 }
 
 /// A field of a form.
-#[derive(Clone, Deserialize, Debug)]
+#[derive(Deserialize, Debug)]
 #[serde(deny_unknown_fields)]
 pub struct Field {
     /// What it is called.
@@ -59,8 +59,8 @@ impl Form {
         Ok(form)
     }
 
-    /// The machine of each field. A refused pattern is shown with a caret at its place.
-    pub fn machines(&self) -> Result<Vec<Machine>, String> {
+    /// The desk that has the machine of each field. A refused pattern is shown with a caret at its place.
+    pub fn open(&self) -> Result<Desk, String> {
         let mut machines = Vec::new();
         for (number, field) in self.fields.iter().enumerate() {
             let Field { label, pattern, .. } = field;
@@ -72,7 +72,7 @@ impl Form {
                 )
             })?);
         }
-        Ok(machines)
+        Desk::open(&machines).map_err(|refusal| refusal.to_string())
     }
 }
 

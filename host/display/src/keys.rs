@@ -6,7 +6,7 @@
 //! the library's own language, and its compiled machine is walked byte by byte. Nothing here depends on time.
 
 use crate::table::Table;
-use palgondur::{limits, ByteSet, Desk, Machine};
+use palgondur::{limits, Machine};
 
 /// What a terminal sends: a key, a report, an answer or a paste.
 #[derive(Clone, PartialEq, Eq, Debug)]
@@ -28,35 +28,12 @@ pub struct Paste {
     pub length: usize,
 }
 
-/// Ctrl-C, the display's own key that leaves the form.
-pub const LEAVE: u8 = 0x03;
-
-/// Ctrl-R, the display's own key that shows what is masked, or masks it again.
-pub const SHOW: u8 = 0x12;
-
-/// What most terminals send for Backspace.
-pub const DELETE: u8 = 0x7F;
-
 /// The byte with which most keys of several bytes begin. Anywhere in one it begins a new one.
 const ESCAPE: u8 = 0x1B;
 
 /// What goes before a pasted text and after it.
 const BEFORE: &[u8] = b"\x1B[200~";
 const AFTER: &[u8] = b"\x1B[201~";
-
-/// Whether a byte that is typed or pasted is text. The others are keys that do something, or parts of other keys.
-pub fn is_text(byte: u8) -> bool {
-    !matches!(
-        byte,
-        LEAVE | SHOW | b'\t' | Desk::TAKE_BACK | Desk::CLOSE | ESCAPE | DELETE..
-    )
-}
-
-/// Of these bytes those that are text.
-pub fn texts(bytes: impl IntoIterator<Item = u8>) -> ByteSet {
-    let bytes = bytes.into_iter();
-    bytes.filter(|byte| is_text(*byte)).collect()
-}
 
 /// So many bytes are kept of what is no key.
 const KEPT: usize = 32;
@@ -98,14 +75,12 @@ fn rest() -> String {
 }
 
 /// Takes bytes apart into presses, one after the other.
-#[derive(Clone)]
 pub struct Keys {
     rest: Table,
     within: Within,
 }
 
 /// What the next byte belongs to.
-#[derive(Clone)]
 enum Within {
     /// Nothing: it begins a key.
     Nothing,

@@ -8,7 +8,6 @@
 //! | [`terminal`] | the terminal: bytes, resizing and signals come in, drawings go out |
 //! | [`keys`] | the bytes, taken apart into presses |
 //! | [`names`] | what a press is called |
-//! | [`wanted`] | what a field wants, in words |
 //! | [`entry`] | what a press does to the form |
 //! | [`form`] | the form's file |
 //! | [`table`] | a machine, walked byte by byte |
@@ -23,4 +22,3 @@ pub mod names;
 pub mod screen;
 pub mod table;
 pub mod terminal;
-pub mod wanted;

@@ -1,4 +1,4 @@
-//! Keys by their names, as the message names what was refused and the hint what can follow.
+//! Keys by their names, as the message names what was refused.
 
 use unicode_width::UnicodeWidthChar;
 
@@ -11,7 +11,6 @@ pub fn byte(key: u8) -> String {
         0x0D => "Enter".to_string(),
         0x1B => "Escape".to_string(),
         0x20 => "Space".to_string(),
-        b'0'..=b'9' | b'A'..=b'Z' | b'a'..=b'z' => char::from(key).to_string(),
         0x21..=0x7E => format!("'{}'", char::from(key)),
         0x00..=0x1F => format!("Ctrl-{}", char::from(key + 0x40)),
         _ => format!("byte 0x{key:02X}"),

@@ -1,9 +1,8 @@
 //! The screen: what is shown of a form, laid out for a terminal of any size.
 //!
 //! From 20 columns and 4 rows on, the line of the cursor is on the screen, and with it as much of the rest as there is
-//! room for: first the message, but no more than half of the rows, then the open field, then what the message has
-//! beyond that, the other fields, the hint, the title and the keys. Where a message or a hint is cut, it ends in two
-//! dots. Below that size it is still drawn, but not all of it may be there.
+//! room for: first the message, then the open field, then the other fields, the hint, the title and the keys. Below
+//! that size it is still drawn, but not all of it may be there.
 
 use unicode_width::{UnicodeWidthChar, UnicodeWidthStr};
 
@@ -78,7 +77,7 @@ pub fn lay_out(view: &View, rows: u16, columns: u16) -> Drawing {
         message.push(String::new());
     }
 
-    // What does not fit goes, the least needed first; of the hint what is too long, if a line is left under the blank.
+    // What does not fit goes, the least needed first.
     let mut parts = [title.collect(), hint.collect(), message, help.collect()];
     let count = |parts: &[Vec<String>; 4]| parts.iter().map(Vec::len).sum::<usize>();
     for (least, may_go) in [
@@ -87,19 +86,12 @@ pub fn lay_out(view: &View, rows: u16, columns: u16) -> Drawing {
         (1, true),
         (2, view.message.is_empty()),
     ] {
-        let over = (fields.lines.len() + count(&parts)).saturating_sub(rows);
-        if may_go && over > 0 {
-            let part = std::mem::take(&mut parts[least]);
-            let left = part.len().saturating_sub(over);
-            let is_kept = least == 1 && left > 1;
-            parts[least] = cut(part, if is_kept { left } else { 0 }, columns);
+        if may_go && fields.lines.len() + count(&parts) > rows {
+            parts[least].clear();
         }
     }
-    // The cursor's line stays beside the message, and with three rows or more another one of the open field; or all of
-    // it, where half of the rows are left for the message.
-    let least = if rows > 2 { 2 } else { 1 };
-    let open = (fields.open.1 - fields.open.0).min(rows - rows / 2);
-    let most = rows - open.max(least);
+    // The cursor's line stays beside the message, and with three rows or more another one of the open field.
+    let most = rows - if rows > 2 { 2 } else { 1 };
     parts[2] = cut(std::mem::take(&mut parts[2]), most, columns);
     let (begin, end) = fields.window(rows - count(&parts));
 

@@ -1,6 +1,6 @@
 //! The entry desk: a form of fields that takes keys one by one.
 
-use crate::{limits, raw, room, ByteSet, Machine};
+use crate::{limits, raw, room, Machine};
 use std::fmt;
 
 /// An entry form that is being filled in, with the machine of each of its fields.
@@ -16,8 +16,7 @@ use std::fmt;
 /// assert_eq!((desk.fields(), desk.open_field()), (2, Some(0)));
 ///
 /// desk.key(b'4')?;
-/// let expected = (b'0'..=b'9').chain(b'A'..=b'F').collect();
-/// assert_eq!(desk.key(b'G'), Err(KeyRefusal::DeadByte(expected)));
+/// assert_eq!(desk.key(b'G'), Err(KeyRefusal::DeadByte));
 /// assert_eq!(desk.key(Desk::CLOSE), Err(KeyRefusal::Unfinished));
 /// assert_eq!(desk.text(0), Some(&b"4"[..]));
 ///
@@ -51,9 +50,8 @@ pub enum OpenRefusal {
 #[derive(Clone, Copy, PartialEq, Eq, Hash, Debug)]
 #[non_exhaustive]
 pub enum KeyRefusal {
-    /// The open field's machine accepts no text that begins with the field's text and this byte. The set has the bytes
-    /// with which it accepts one, also [`Desk::TAKE_BACK`] and [`Desk::CLOSE`], which as keys are no text.
-    DeadByte(ByteSet),
+    /// The open field's machine accepts no text that begins with the field's text and this byte.
+    DeadByte,
     /// The open field's machine does not accept the field's text, so it is not closed.
     Unfinished,
     /// The open field has [`limits::TEXT`] bytes already.
@@ -107,8 +105,7 @@ impl Desk {
     /// use palgondur::{Desk, KeyRefusal, Machine};
     ///
     /// let mut desk = Desk::open(&[Machine::compile("(ab*|a)b")?])?;
-    /// let expected = [b'a'].into_iter().collect();
-    /// assert_eq!(desk.key(b'b'), Err(KeyRefusal::DeadByte(expected)));
+    /// assert_eq!(desk.key(b'b'), Err(KeyRefusal::DeadByte));
     /// assert_eq!(desk.key(b'a'), Ok(()));
     /// assert_eq!(desk.key(Desk::CLOSE), Err(KeyRefusal::Unfinished));
     /// assert_eq!(desk.key(b'b'), Ok(()));
@@ -117,9 +114,8 @@ impl Desk {
     /// # Ok::<(), Box<dyn std::error::Error>>(())
     /// ```
     pub fn key(&mut self, key: u8) -> Result<(), KeyRefusal> {
-        let mut expected = [0; limits::BYTES];
-        let number = raw::desk_key(&self.rooms, &mut self.form[..], key, &mut expected);
-        match (number, KeyRefusal::of(number, &expected)) {
+        let number = raw::desk_key(&self.rooms, &mut self.form[..], key);
+        match (number, KeyRefusal::of(number)) {
             (0, _) => Ok(()),
             (_, Some(refusal)) => Err(refusal),
             _ => unreachable!("{number} of sound rooms and a form that only keys have changed"),
@@ -172,26 +168,6 @@ impl Desk {
         room::fewest_more(room, room::state_after(room, text))
     }
 
-    /// The bytes after which the text of a field, counted from 0, could still become one that its machine accepts. None,
-    /// if there is no such field. Whether the field has room for one more is not asked, nor whether the byte is one of
-    /// the two keys.
-    ///
-    /// ```
-    /// use palgondur::{Desk, Machine};
-    ///
-    /// let mut desk = Desk::open(&[Machine::compile("abcd|b")?, Machine::compile("a*")?])?;
-    /// assert_eq!((desk.can_follow(0).to_string(), desk.can_follow(1).to_string()), ("[ab]".into(), "[a]".into()));
-    /// desk.key(b'b')?;
-    /// assert!(desk.can_follow(0).is_empty() && desk.can_follow(2).is_empty());
-    /// # Ok::<(), Box<dyn std::error::Error>>(())
-    /// ```
-    pub fn can_follow(&self, field: usize) -> ByteSet {
-        self.text(field).map_or_else(ByteSet::default, |text| {
-            let room = &self.rooms[field * limits::ROOM..];
-            room::can_follow(room, room::state_after(room, text))
-        })
-    }
-
     /// The form: the two numbers, the length of each text, the texts.
     pub fn form(&self) -> &[u8; limits::ENTRY] {
         &self.form
@@ -226,22 +202,17 @@ impl fmt::Display for OpenRefusal {
 impl std::error::Error for OpenRefusal {}
 
 impl KeyRefusal {
-    /// The refusal of a number and marks as [`raw::desk_key`] gives them, if it is one that a [`Desk`] can give. The marks
-    /// count for a dead byte alone.
+    /// The refusal of a number as [`raw::desk_key`] gives it, if it is one that a [`Desk`] can give.
     ///
     /// ```
-    /// use palgondur::{limits, KeyRefusal};
+    /// use palgondur::KeyRefusal;
     ///
-    /// let mut expected = [0; limits::BYTES];
-    /// expected[usize::from(b'a')] = 1;
-    /// let set = [b'a'].into_iter().collect();
-    /// assert_eq!(KeyRefusal::of(10, &expected), Some(KeyRefusal::DeadByte(set)));
-    /// assert_eq!(KeyRefusal::of(13, &expected), Some(KeyRefusal::Closed));
-    /// assert_eq!(KeyRefusal::of(0, &expected), None);
+    /// assert_eq!(KeyRefusal::of(13), Some(KeyRefusal::Closed));
+    /// assert_eq!(KeyRefusal::of(0), None);
     /// ```
-    pub fn of(number: u8, expected: &[u8; limits::BYTES]) -> Option<KeyRefusal> {
+    pub fn of(number: u8) -> Option<KeyRefusal> {
         Some(match number {
-            10 => KeyRefusal::DeadByte(ByteSet::marked(expected)),
+            10 => KeyRefusal::DeadByte,
             11 => KeyRefusal::Unfinished,
             12 => KeyRefusal::Length,
             13 => KeyRefusal::Closed,
@@ -252,7 +223,7 @@ impl KeyRefusal {
     /// The refusal's number.
     pub fn number(self) -> u8 {
         match self {
-            KeyRefusal::DeadByte(_) => 10,
+            KeyRefusal::DeadByte => 10,
             KeyRefusal::Unfinished => 11,
             KeyRefusal::Length => 12,
             KeyRefusal::Closed => 13,
@@ -264,13 +235,7 @@ impl KeyRefusal {
 impl fmt::Display for KeyRefusal {
     fn fmt(&self, to: &mut fmt::Formatter<'_>) -> fmt::Result {
         match self {
-            KeyRefusal::DeadByte(expected) => {
-                to.write_str("no text of this field goes on this way; ")?;
-                match expected.is_empty() {
-                    true => to.write_str("nothing can stand here"),
-                    false => write!(to, "{expected} can stand here"),
-                }
-            }
+            KeyRefusal::DeadByte => to.write_str("no text of this field goes on this way"),
             KeyRefusal::Unfinished => to.write_str("the text of this field is not finished"),
             KeyRefusal::Length => write!(to, "a field has at most {} bytes", limits::TEXT),
             KeyRefusal::Closed => to.write_str("all fields are closed"),

@@ -10,12 +10,10 @@ pub const POSITIONS: usize = 63;
 pub const CLASSES: usize = 64;
 /// Sets reached in compiling, and states of a machine, at most.
 pub const STATES: usize = 128;
-/// Byte values.
-pub const BYTES: usize = 256;
 /// Where the class of each byte value begins in a machine room, after the two numbers.
 pub const CLASSES_AT: usize = 2;
 /// Where the accept marks begin.
-pub const MARKS_AT: usize = CLASSES_AT + BYTES;
+pub const MARKS_AT: usize = CLASSES_AT + 256;
 /// Where the cells begin, by row.
 pub const CELLS_AT: usize = MARKS_AT + STATES;
 /// Where the ways begin: of each state the fewest bytes from it to acceptance, in two bytes, the high one first.
@@ -25,7 +23,7 @@ pub const NO_WAY: u16 = 65_535;
 /// Bytes of a machine room.
 pub const ROOM: usize = WAYS_AT + 2 * STATES;
 /// Bytes of a packed form, at most: its bit fields, filled to a whole byte.
-pub const FORM: usize = (4 + 7 + 6 + BYTES * 6 + STATES + STATES * CLASSES * 7 + 7) / 8;
+pub const FORM: usize = (4 + 7 + 6 + 256 * 6 + STATES + STATES * CLASSES * 7 + 7) / 8;
 /// Bytes of a separating string, at most.
 pub const WORD: usize = 2 * STATES - 2;
 /// Bytes of scratch.

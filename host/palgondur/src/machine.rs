@@ -1,7 +1,7 @@
 //! Machines and what they answer.
 
 use crate::refusal::done;
-use crate::{limits, raw, room, ByteSet, Form, Refusal, Scratch};
+use crate::{limits, raw, room, Form, Refusal, Scratch};
 use std::fmt;
 
 /// A machine: a sound room of its own.
@@ -24,9 +24,6 @@ pub enum Match {
     Dead {
         /// The length of the shortest prefix that no continuation would make accepted; 0 if the machine accepts nothing.
         place: usize,
-        /// The bytes that could have stood last in that prefix: with each of them some continuation is accepted. None at
-        /// place 0.
-        expected: ByteSet,
     },
     /// The text is not accepted, but some continuation of it is.
     #[non_exhaustive]
@@ -110,7 +107,7 @@ impl Machine {
     /// ```
     pub fn from_room(room: impl AsRef<[u8]>) -> Result<Machine, Refusal> {
         let room = room.as_ref();
-        let (number, _) = raw::match_text(room, b"", &mut [0; limits::BYTES]);
+        let (number, _) = raw::match_text(room, b"");
         if let Some(refusal) = Refusal::of(number, 0) {
             return Err(refusal);
         }
@@ -146,8 +143,7 @@ impl Machine {
         machine
     }
 
-    /// Whether the text is accepted, whole; if not, whether it could still be and by how few bytes, or where it died and
-    /// what could have stood there.
+    /// Whether the text is accepted, whole; if not, whether it could still be and by how few bytes, or where it died.
     ///
     /// ```
     /// use palgondur::{Machine, Match};
@@ -155,13 +151,7 @@ impl Machine {
     /// let machine = Machine::compile("(ab*|a)b")?;
     /// assert_eq!(machine.matches("ab"), Match::Accepted);
     /// assert!(matches!(machine.matches("a"), Match::Unfinished { fewest_more: 1, .. }));
-    /// match machine.matches("ac") {
-    ///     Match::Dead { place, expected, .. } => {
-    ///         assert_eq!(place, 2);
-    ///         assert!(expected.iter().eq([b'b']));
-    ///     }
-    ///     other => panic!("{other:?}"),
-    /// }
+    /// assert!(matches!(machine.matches("ac"), Match::Dead { place: 2, .. }));
     ///
     /// let serial = Machine::compile("[A-Z][A-Z]-[0-9][0-9][0-9]")?;
     /// match serial.matches("PK") {
@@ -172,13 +162,9 @@ impl Machine {
     /// ```
     pub fn matches(&self, text: impl AsRef<[u8]>) -> Match {
         let text = text.as_ref();
-        let mut expected = [0; limits::BYTES];
-        match raw::match_text(self.room(), text, &mut expected) {
+        match raw::match_text(self.room(), text) {
             (0, _) => Match::Accepted,
-            (raw::DEAD, place) => Match::Dead {
-                place,
-                expected: ByteSet::marked(&expected),
-            },
+            (raw::DEAD, place) => Match::Dead { place },
             (raw::UNFINISHED, _) => {
                 let more = self.fewest_more(self.state_after(text));
                 let fewest_more = more.expect("a way from where the text is unfinished");
@@ -272,22 +258,6 @@ impl Machine {
     /// ```
     pub fn fewest_more(&self, state: usize) -> Option<usize> {
         room::fewest_more(self.room(), state)
-    }
-
-    /// The bytes after which there is still a way from a state to acceptance. None, if there is no such state.
-    ///
-    /// ```
-    /// use palgondur::Machine;
-    ///
-    /// let machine = Machine::compile("[A-Z]+-?[0-9]+")?;
-    /// let follow = |text: &str| machine.can_follow(machine.state_after(text)).to_string();
-    /// assert_eq!((follow(""), follow("PK"), follow("PK-")), ("[A-Z]".into(), r"[\-0-9A-Z]".into(), "[0-9]".into()));
-    /// assert!(machine.can_follow(machine.state_after("4")).is_empty());
-    /// assert!(machine.can_follow(machine.states()).is_empty());
-    /// # Ok::<(), palgondur::Refusal>(())
-    /// ```
-    pub fn can_follow(&self, state: usize) -> ByteSet {
-        room::can_follow(self.room(), state)
     }
 
     /// The room: the two numbers, the class of each byte value, the accept marks, the cells, the ways.

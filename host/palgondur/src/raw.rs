@@ -10,25 +10,17 @@
 //!
 //! let (mut room, mut bytes, mut words) = ([0; limits::ROOM], [0; limits::SCRATCH_BYTES], [0; limits::SCRATCH_WORDS]);
 //! assert_eq!(raw::compile(b"(ab*|a)b", &mut room, &mut bytes, &mut words), (0, 0));
+//! assert_eq!(raw::match_text(&room, b"ac"), (raw::DEAD, 2));
 //! assert_eq!(raw::compile(b"a|", &mut room, &mut bytes, &mut words), (3, 2));
-//!
-//! let mut expected = [7; limits::BYTES];
-//! assert_eq!(raw::match_text(&room, b"a", &mut expected), (raw::UNFINISHED, 0));
-//! assert_eq!(raw::match_text(&room[1..], b"ac", &mut expected), (1, 0));
-//! assert_eq!(expected, [7; limits::BYTES]);
-//! assert_eq!(raw::match_text(&room, b"ac", &mut expected), (raw::DEAD, 2));
-//! assert!((0..=255).all(|byte| expected[byte] == u8::from(byte == usize::from(b'b'))));
+//! assert_eq!(raw::match_text(&room[1..], b"ac"), (1, 0));
 //!
 //! let mut form = [0; limits::ENTRY];
 //! assert_eq!(raw::desk_open(1, &room, &mut form), 0);
-//! assert_eq!(raw::desk_key(&room, &mut form, b'c', &mut expected), 10);
-//! assert!((0..=255).all(|byte| expected[byte] == u8::from(byte == usize::from(b'a'))));
-//! assert_eq!(raw::desk_key(&room, &mut form, b'a', &mut expected), 0);
-//! assert_eq!(raw::desk_key(&room[1..], &mut form, b'b', &mut expected), 1);
+//! assert_eq!(raw::desk_key(&room, &mut form, b'a'), 0);
+//! assert_eq!(raw::desk_key(&room, &mut form, b'c'), 10);
+//! assert_eq!(raw::desk_key(&room[1..], &mut form, b'b'), 1);
 //! assert_eq!((form[2], form[18], form[19]), (1, b'a', 0));
 //! ```
-
-use crate::limits::BYTES;
 
 /// The number of a match that is Dead.
 pub const DEAD: u8 = 64;
@@ -47,12 +39,7 @@ extern "C" {
         place: &mut usize,
     ) -> u8;
     fn palgondur_minimise(from: &[u8], to: &mut [u8], bytes: &mut [u8], words: &mut [u64]) -> u8;
-    fn palgondur_match(
-        room: &[u8],
-        text: &[u8],
-        place: &mut usize,
-        expected: &mut [u8; BYTES],
-    ) -> u8;
+    fn palgondur_match(room: &[u8], text: &[u8], place: &mut usize) -> u8;
     fn palgondur_compare(
         left: &[u8],
         right: &[u8],
@@ -71,8 +58,7 @@ extern "C" {
     ) -> u8;
     fn palgondur_unpack(form: &[u8], room: &mut [u8], bytes: &mut [u8], words: &mut [u64]) -> u8;
     fn palgondur_desk_open(count: usize, rooms: &[u8], form: &mut [u8]) -> u8;
-    fn palgondur_desk_key(rooms: &[u8], form: &mut [u8], key: u8, expected: &mut [u8; BYTES])
-        -> u8;
+    fn palgondur_desk_key(rooms: &[u8], form: &mut [u8], key: u8) -> u8;
 }
 
 // Why the calls below are sound. Each function's proved contract takes slices of every length and content, so there is
@@ -97,12 +83,10 @@ pub fn minimise(from: &[u8], to: &mut [u8], bytes: &mut [u8], words: &mut [u64])
     unsafe { palgondur_minimise(from, to, bytes, words) }
 }
 
-/// Matches `text` against `room`: the answer's number and its place. [`DEAD`] writes into `expected`, for each byte value,
-/// 1 if that byte after the longest prefix that something completes is completed by something too, else 0; at place 0
-/// all are 0. Any other answer leaves `expected` as it was.
-pub fn match_text(room: &[u8], text: &[u8], expected: &mut [u8; BYTES]) -> (u8, usize) {
+/// Matches `text` against `room`: the answer's number and its place.
+pub fn match_text(room: &[u8], text: &[u8]) -> (u8, usize) {
     let mut place = 0;
-    let number = unsafe { palgondur_match(room, text, &mut place, expected) };
+    let number = unsafe { palgondur_match(room, text, &mut place) };
     (number, place)
 }
 
@@ -140,9 +124,7 @@ pub fn desk_open(count: usize, rooms: &[u8], form: &mut [u8]) -> u8 {
 }
 
 /// Gives a key to the entry form at the front of `form`, whose fields have the rooms that lie end to end in `rooms`:
-/// the answer's number. Number 10, DEAD BYTE, writes into `expected`, for each byte value, 1 if something completes the
-/// open field's text with that byte behind it, else 0; the two keys are bytes as any other there. Any other answer
-/// leaves `expected` as it was.
-pub fn desk_key(rooms: &[u8], form: &mut [u8], key: u8, expected: &mut [u8; BYTES]) -> u8 {
-    unsafe { palgondur_desk_key(rooms, form, key, expected) }
+/// the answer's number.
+pub fn desk_key(rooms: &[u8], form: &mut [u8], key: u8) -> u8 {
+    unsafe { palgondur_desk_key(rooms, form, key) }
 }

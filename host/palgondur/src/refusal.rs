@@ -138,7 +138,7 @@ impl Refusal {
 }
 
 /// A byte as it is printed.
-pub(crate) fn printed(byte: u8) -> String {
+fn printed(byte: u8) -> String {
     match byte {
         0x20..=0x7E => char::from(byte).to_string(),
         _ => format!("\\x{byte:02X}"),

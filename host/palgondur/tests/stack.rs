@@ -14,12 +14,12 @@ use std::os::raw::{c_int, c_void};
 const SEEN: [(&str, usize, usize); 8] = [
     ("compile", 8_952, 9_369),
     ("minimise", 7_464, 8_000),
-    ("match", 560, 594),
+    ("match", 544, 594),
     ("compare", 5_432, 8_000),
     ("pack", 7_416, 8_000),
     ("unpack", 7_432, 8_000),
     ("desk_open", 528, 1_024),
-    ("desk_key", 784, 1_024),
+    ("desk_key", 768, 1_024),
 ];
 
 /// The part of a stack that is painted at once.
@@ -110,7 +110,6 @@ struct Lent {
     entry: Vec<u8>,
     bytes: Vec<u8>,
     words: Vec<u64>,
-    expected: [u8; limits::BYTES],
 }
 
 impl Lent {
@@ -122,7 +121,6 @@ impl Lent {
             entry: vec![0; limits::ENTRY],
             bytes: vec![0; limits::SCRATCH_BYTES],
             words: vec![0; limits::SCRATCH_WORDS],
-            expected: [0; limits::BYTES],
         }
     }
 }
@@ -162,33 +160,26 @@ impl Question {
             entry,
             bytes,
             words,
-            expected,
         } = lent;
         match self {
             Question::Compile(pattern) => raw::compile(pattern, room, bytes, words).0,
             Question::Minimise(from) => raw::minimise(from, room, bytes, words),
-            Question::Match(room, text) => raw::match_text(room, text, expected).0,
+            Question::Match(room, text) => raw::match_text(room, text).0,
             Question::Compare(left, right) => raw::compare(left, right, word, bytes, words).0,
             Question::Pack(from, length) => raw::pack(from, &mut form[..*length], bytes, words).0,
             Question::Unpack(form) => raw::unpack(form, room, bytes, words),
             Question::Open(count, rooms) => raw::desk_open(*count, rooms, entry),
-            Question::Key(rooms, form, key) => pressed(rooms, form, *key, entry, expected),
+            Question::Key(rooms, form, key) => pressed(rooms, form, *key, entry),
         }
     }
 }
 
 /// Gives a key to a copy of a form. A function of its own, so that its frame counts for no other operation.
 #[inline(never)]
-fn pressed(
-    rooms: &[u8],
-    form: &[u8],
-    key: u8,
-    entry: &mut [u8],
-    expected: &mut [u8; limits::BYTES],
-) -> u8 {
+fn pressed(rooms: &[u8], form: &[u8], key: u8, entry: &mut [u8]) -> u8 {
     let entry = &mut entry[..form.len()];
     entry.copy_from_slice(form);
-    raw::desk_key(rooms, entry, key, expected)
+    raw::desk_key(rooms, entry, key)
 }
 
 /// A row: what the input is, the question, the number of the answer.
@@ -309,8 +300,6 @@ struct Rooms {
     alike: Vec<u8>,
     /// 128 states, none accepting.
     none: Vec<u8>,
-    /// 128 states, of which the last is dead; byte 0 leads there from every state.
-    trap: Vec<u8>,
     /// A ring of 128 states.
     ring: Vec<u8>,
     /// A ring of 127 states after one more: told from the other by a string of 254 bytes.
@@ -340,14 +329,6 @@ impl Rooms {
             renumbered,
             alike: room(64, |_| true, anywhere),
             none: room(64, |_| false, anywhere),
-            trap: room(
-                64,
-                |state| state != 127 && mixed(state, 2) == 1,
-                |state, class| match (state, class) {
-                    (127, _) | (_, 0) => 127,
-                    _ => mixed(state * 64 + class, 127),
-                },
-            ),
             ring: room(1, last, |state, _| (state + 1) % 128),
             tailed: room(1, last, |state, _| state % 127 + 1),
             unsound,
@@ -356,13 +337,12 @@ impl Rooms {
     }
 
     /// Each with its name, and whether it is sound.
-    fn named(&self) -> [(&'static str, &Vec<u8>, bool); 9] {
+    fn named(&self) -> [(&'static str, &Vec<u8>, bool); 8] {
         [
             ("the largest room", &self.largest, true),
             ("the largest, renumbered", &self.renumbered, true),
             ("128 like states", &self.alike, true),
             ("128 states, none accepting", &self.none, true),
-            ("128 states, one dead", &self.trap, true),
             ("a ring of 128", &self.ring, true),
             ("a ring of 127 after one", &self.tailed, true),
             ("an unsound room", &self.unsound, false),
@@ -379,7 +359,6 @@ fn rooms() -> Vec<Row> {
     let texts = [
         ("no text", vec![]),
         ("many a", vec![b'a'; 100_000]),
-        ("many a, then 0", [&[b'a'; 100_000][..], &[0]].concat()),
         ("all bytes", (0..=255).collect()),
     ];
     for (name, room, sound) in rooms.named() {
@@ -498,8 +477,8 @@ fn entry(closed: usize, texts: &[&[u8]]) -> Vec<u8> {
 
 /// What a key is answered that is given to an open field with this room and text, by what matching says of it.
 fn answered(room: &[u8], text: &[u8], key: u8) -> u8 {
-    let matched = |text: &[u8]| raw::match_text(room, text, &mut [0; limits::BYTES]).0;
-    let (number, more) = (matched(text), matched(&[text, &[key]].concat()));
+    let (number, _) = raw::match_text(room, text);
+    let (more, _) = raw::match_text(room, &[text, &[key]].concat());
     match key {
         _ if number == 9 || number == raw::DEAD && !text.is_empty() => 9,
         0x08 => 0,
@@ -518,7 +497,7 @@ fn desks() -> Vec<Row> {
     let some: Vec<u8> = (0..limits::TEXT).map(byte).collect();
     let full = (32..64)
         .map(|last| [&some[1..], &[last]].concat())
-        .find(|text| raw::match_text(&rooms.largest, text, &mut [0; limits::BYTES]).0 == 0)
+        .find(|text| raw::match_text(&rooms.largest, text).0 == 0)
         .expect("a text that the largest accepts");
     let mut rows: Vec<Row> = Vec::new();
     for (name, room, sound) in rooms.named() {
@@ -529,7 +508,7 @@ fn desks() -> Vec<Row> {
             let input = format!("{rooms_name} {name}");
             rows.push((input, Question::Open(16, rooms.clone()), opened));
         }
-        for key in [0x08, 0x0D, b' ', 0] {
+        for key in [0x08, 0x0D, b' '] {
             let input = format!("key {key:#04X} to sixteen of {name}");
             let question = Question::Key(like.clone(), entry(0, &[]), key);
             rows.push((input, question, answered(room, b"", key)));

@@ -27,7 +27,6 @@ fn main() {
     let mut room = vec![0; limits::ROOM];
     let mut word = vec![0; limits::WORD];
     let mut form = vec![0; limits::ROOM];
-    let mut expected = [0; limits::BYTES];
     let mut bytes = vec![0; limits::SCRATCH_BYTES];
     let mut words = vec![0; limits::SCRATCH_WORDS];
 
@@ -78,7 +77,7 @@ fn main() {
         second::pack(room, &mut form, &mut bytes, &mut words);
     });
     time("match, compiled rooms", &rooms, |room| {
-        second::match_text(room, b"abcabcab", &mut expected);
+        second::match_text(room, b"abcabcab");
     });
     let drawn: Vec<Vec<u8>> = (0..2000).map(|_| draw.room()).collect();
     time("minimise, drawn rooms", &drawn, |from| {

@@ -7,8 +7,6 @@
 use std::collections::HashMap;
 
 use crate::answer;
-use crate::limits::BYTES;
-use crate::matching::Answer;
 use crate::text::{ByteSet, Mark, Node, Tree};
 
 #[derive(Clone, PartialEq, Eq, Hash, Debug)]
@@ -23,19 +21,13 @@ enum Form {
 
 const NOTHING: usize = 0;
 const EMPTY: usize = 1;
-/// No number of an expression.
-const UNKNOWN: usize = usize::MAX;
 
 /// A pattern's language, with the derivatives met so far.
 pub struct Language {
     forms: Vec<Form>,
     nullable: Vec<bool>,
-    /// Whether each has no word at all.
-    empty: Vec<bool>,
     known: HashMap<Form, usize>,
-    /// The derivatives of each by all bytes, once one was asked for.
-    derived: Vec<Vec<usize>>,
-    followed: HashMap<usize, ByteSet>,
+    derived: HashMap<(usize, u8), usize>,
     whole: usize,
 }
 
@@ -45,10 +37,8 @@ impl Language {
         let mut language = Language {
             forms: Vec::new(),
             nullable: Vec::new(),
-            empty: Vec::new(),
             known: HashMap::new(),
-            derived: Vec::new(),
-            followed: HashMap::new(),
+            derived: HashMap::new(),
             whole: NOTHING,
         };
         language.keep(Form::Nothing);
@@ -91,17 +81,8 @@ impl Language {
             Form::Union(parts) => parts.iter().any(|&part| self.nullable[part]),
             Form::Product(left, right) => self.nullable[*left] && self.nullable[*right],
         };
-        let empty = match &form {
-            Form::Nothing => true,
-            Form::Empty | Form::Star(_) => false,
-            Form::Bytes(holds) => *holds == ByteSet::empty(),
-            Form::Union(parts) => parts.iter().all(|&part| self.empty[part]),
-            Form::Product(left, right) => self.empty[*left] || self.empty[*right],
-        };
         self.forms.push(form.clone());
         self.nullable.push(nullable);
-        self.empty.push(empty);
-        self.derived.push(Vec::new());
         self.known.insert(form, self.forms.len() - 1);
         self.forms.len() - 1
     }
@@ -147,12 +128,8 @@ impl Language {
     }
 
     fn derivative(&mut self, whole: usize, byte: u8) -> usize {
-        if self.derived[whole].is_empty() {
-            self.derived[whole] = vec![UNKNOWN; BYTES];
-        }
-        let known = self.derived[whole][usize::from(byte)];
-        if known != UNKNOWN {
-            return known;
+        if let Some(&number) = self.derived.get(&(whole, byte)) {
+            return number;
         }
         let number = match self.forms[whole].clone() {
             Form::Nothing | Form::Empty => NOTHING,
@@ -185,7 +162,7 @@ impl Language {
                 self.product(begun, whole)
             }
         };
-        self.derived[whole][usize::from(byte)] = number;
+        self.derived.insert((whole, byte), number);
         number
     }
 
@@ -197,39 +174,32 @@ impl Language {
         self.nullable[last]
     }
 
-    /// The answer of matching the text: the shortest prefix whose derivative has no word makes it Dead.
-    pub fn answer(&mut self, text: &[u8]) -> Answer {
+    /// The answer and place of matching the text: the shortest prefix whose derivative has no word makes it Dead.
+    pub fn answer(&mut self, text: &[u8]) -> (u8, usize) {
         let mut whole = self.whole;
-        if self.empty[whole] {
-            return (answer::DEAD, 0, Some(ByteSet::empty()));
-        }
-        for (&byte, place) in text.iter().zip(1..) {
-            let next = self.derivative(whole, byte);
-            if self.empty[next] {
-                return (answer::DEAD, place, Some(self.follow(whole)));
+        for (place, &byte) in text.iter().enumerate() {
+            if self.is_empty(whole) {
+                return (answer::DEAD, place);
             }
-            whole = next;
+            whole = self.derivative(whole, byte);
         }
-        if self.nullable[whole] {
-            (answer::ACCEPTED, 0, None)
+        if self.is_empty(whole) {
+            (answer::DEAD, text.len())
+        } else if self.nullable[whole] {
+            (answer::ACCEPTED, 0)
         } else {
-            (answer::UNFINISHED, 0, None)
+            (answer::UNFINISHED, 0)
         }
     }
 
-    /// The bytes by which an expression has a derivative with a word.
-    fn follow(&mut self, whole: usize) -> ByteSet {
-        if let Some(&known) = self.followed.get(&whole) {
-            return known;
+    /// Whether an expression has no word at all.
+    fn is_empty(&self, whole: usize) -> bool {
+        match &self.forms[whole] {
+            Form::Nothing => true,
+            Form::Empty | Form::Star(_) => false,
+            Form::Bytes(holds) => *holds == ByteSet::empty(),
+            Form::Union(parts) => parts.iter().all(|&part| self.is_empty(part)),
+            Form::Product(left, right) => self.is_empty(*left) || self.is_empty(*right),
         }
-        let mut follow = ByteSet::empty();
-        for byte in 0..=255 {
-            let next = self.derivative(whole, byte);
-            if !self.empty[next] {
-                follow.add(byte);
-            }
-        }
-        self.followed.insert(whole, follow);
-        follow
     }
 }

@@ -6,8 +6,7 @@
 use crate::answer;
 use crate::limits::{ENTRY_FORM, FIELDS, LENGTH_AT, ROOM, TEXT, TEXT_AT};
 use crate::machine::Machine;
-use crate::matching::{answer_by, follow, live};
-use crate::text::ByteSet;
+use crate::matching::{answer_by, live};
 
 /// The key that takes back the last byte of the open field.
 pub const BACK: u8 = 0x08;
@@ -48,7 +47,7 @@ impl Desk {
         let mut desk = Desk::open(usize::from(form[0]), rooms)?;
         let typed = keys(form)
             .into_iter()
-            .all(|key| desk.key(key).0 == answer::DONE);
+            .all(|key| desk.key(key) == answer::DONE);
         if typed && desk.form() == form {
             Some(desk)
         } else {
@@ -56,30 +55,29 @@ impl Desk {
         }
     }
 
-    /// Presses a key: the answer's number, and of a dead byte the bytes that could have stood in its place.
-    pub fn key(&mut self, key: u8) -> (u8, Option<ByteSet>) {
+    /// Presses a key: the answer's number.
+    pub fn key(&mut self, key: u8) -> u8 {
         let (machine, live) = match self.fields.get(self.closed.len()) {
             Some(field) => field,
-            None => return (answer::CLOSED, None),
+            None => return answer::CLOSED,
         };
+        let judged = |text: &[u8]| answer_by(machine, live, text).0;
         match key {
             BACK => {
                 self.open.pop();
             }
-            ENTER if answer_by(machine, live, &self.open).0 != answer::ACCEPTED => {
-                return (answer::UNFINISHED_FIELD, None);
-            }
+            ENTER if judged(&self.open) != answer::ACCEPTED => return answer::UNFINISHED_FIELD,
             ENTER => self.closed.push(std::mem::take(&mut self.open)),
-            _ if self.open.len() == TEXT => return (answer::LENGTH, None),
+            _ if self.open.len() == TEXT => return answer::LENGTH,
             _ => {
-                let state = machine.run(&self.open);
-                if !live[machine.next(state, key)] {
-                    return (answer::DEAD_BYTE, Some(follow(machine, live, state)));
+                let longer = [&self.open[..], &[key]].concat();
+                if judged(&longer) == answer::DEAD {
+                    return answer::DEAD_BYTE;
                 }
-                self.open.push(key);
+                self.open = longer;
             }
         }
-        (answer::DONE, None)
+        answer::DONE
     }
 
     /// The 2,066 bytes of the form.

@@ -4,7 +4,6 @@
 //! |---|---|
 //! | text | cut into tokens and split between partners (`text`); places by trying completions (`judge`) |
 //! | language | Brzozowski's derivatives (`derive`) |
-//! | bytes expected | derivatives that have a word (`derive`); live states (`matching`) |
 //! | sets reached | an automaton with empty steps (`sets`) |
 //! | ways | breadth first, backward from the accepting states (`ways`) |
 //! | smallest machine | double reversal (`smallest`) |

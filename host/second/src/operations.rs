@@ -13,7 +13,6 @@ use crate::matching;
 use crate::pairs;
 use crate::sets::Automaton;
 use crate::smallest::{canonical, smallest};
-use crate::text::ByteSet;
 
 /// Whether scratch is shorter than it must be.
 fn short_scratch(bytes: &[u8], words: &[u64]) -> bool {
@@ -78,26 +77,13 @@ pub fn minimise(from: &[u8], to: &mut [u8], bytes: &mut [u8], words: &mut [u64])
     }
 }
 
-/// Writes for each byte value 1 if it is in the set, else 0; nothing, if there is no set.
-fn mark(set: Option<ByteSet>, expected: &mut [u8; limits::BYTES]) {
-    if let Some(set) = set {
-        for byte in 0..=255 {
-            expected[usize::from(byte)] = u8::from(set.has(byte));
-        }
-    }
-}
-
-/// Matches a text by a room: the answer's number and place. What could have stood where the text died is written with Dead alone.
-pub fn match_text(room: &[u8], text: &[u8], expected: &mut [u8; limits::BYTES]) -> (u8, usize) {
+/// Matches a text by a room: the answer's number and place.
+pub fn match_text(room: &[u8], text: &[u8]) -> (u8, usize) {
     if room.len() < limits::ROOM {
         return (answer::ROOM, 0);
     }
     match Machine::read(room) {
-        Some(machine) => {
-            let (number, place, set) = matching::answer(&machine, text);
-            mark(set, expected);
-            (number, place)
-        }
+        Some(machine) => matching::answer(&machine, text),
         None => (answer::FORM, 0),
     }
 }
@@ -186,8 +172,8 @@ pub fn desk_open(count: usize, rooms: &[u8], form: &mut [u8]) -> u8 {
     }
 }
 
-/// Presses a key on an entry form. What could have stood in its place is written with a dead byte alone.
-pub fn desk_key(rooms: &[u8], form: &mut [u8], key: u8, expected: &mut [u8; limits::BYTES]) -> u8 {
+/// Presses a key on an entry form.
+pub fn desk_key(rooms: &[u8], form: &mut [u8], key: u8) -> u8 {
     let count = form.first().map_or(0, |&count| usize::from(count));
     if short_desk(count, rooms, form) {
         return answer::ROOM;
@@ -195,9 +181,8 @@ pub fn desk_key(rooms: &[u8], form: &mut [u8], key: u8, expected: &mut [u8; limi
     let form = &mut form[..limits::ENTRY_FORM];
     match Desk::showing(rooms, form) {
         Some(mut desk) => {
-            let (number, set) = desk.key(key);
+            let number = desk.key(key);
             form.copy_from_slice(&desk.form());
-            mark(set, expected);
             number
         }
         None => answer::FORM,

@@ -2,7 +2,7 @@
 
 use second::answer::*;
 use second::limits::{
-    BYTES, ENTRY_FORM, ROOM as ROOM_SIZE, SCRATCH_BYTES, SCRATCH_WORDS, TEXT, WAY_AT, WORD,
+    ENTRY_FORM, ROOM as ROOM_SIZE, SCRATCH_BYTES, SCRATCH_WORDS, TEXT, WAY_AT, WORD,
 };
 
 /// Scratch of given lengths, none of it zero.
@@ -21,16 +21,6 @@ fn is_clear(bytes: &[u8], words: &[u64]) -> bool {
 /// Whether scratch is as it was.
 fn is_untouched(bytes: &[u8], words: &[u64]) -> bool {
     bytes.iter().all(|&byte| byte == 7) && words.iter().all(|&word| word == 7)
-}
-
-/// An array of sevens after an answer that says which bytes were expected, or that says nothing of it.
-fn marked(expected: Option<&[u8]>) -> [u8; BYTES] {
-    let mut marks = [7; BYTES];
-    if let Some(bytes) = expected {
-        marks.fill(0);
-        bytes.iter().for_each(|&byte| marks[usize::from(byte)] = 1);
-    }
-    marks
 }
 
 fn room(pattern: &[u8]) -> Vec<u8> {
@@ -80,6 +70,7 @@ fn short_buffers_are_judged_first() {
         second::minimise(&short, &mut to, &mut bytes, &mut words),
         ROOM
     );
+    assert_eq!(second::match_text(&short, b"a"), (ROOM, 0));
     assert_eq!(
         second::compare(&good, &short, &mut word, &mut bytes, &mut words),
         (ROOM, 0, 0)
@@ -128,6 +119,7 @@ fn refusals_clear_scratch_alone() {
         assert!(is_clear(&bytes, &words));
         assert!(to.iter().chain(&word).all(|&byte| byte == 7));
     }
+    assert_eq!(second::match_text(&bad, b"a"), (FORM, 0));
 }
 
 #[test]
@@ -167,34 +159,7 @@ fn answers_keep_tails() {
         assert!(to[written.len()..].iter().all(|&byte| byte == 7));
         assert!(is_clear(&bytes, &words));
     }
-}
-
-#[test]
-fn matching_writes_with_dead_alone() {
-    let (good, none) = (room(b"a*b"), room(b"\\0"));
-    let (short, bad) = (vec![7; ROOM_SIZE - 1], vec![255; ROOM_SIZE]);
-    let long = [&good[..], &[200; 9]].concat();
-    // The room and the text; the answer, and what was expected.
-    type Row<'a> = (&'a [u8], &'a [u8], (u8, usize), Option<&'a [u8]>);
-    let rows: [Row; 12] = [
-        (&short, b"c", (ROOM, 0), None),
-        (&bad, b"c", (FORM, 0), None),
-        (&good, b"aab", (ACCEPTED, 0), None),
-        (&long, b"b", (ACCEPTED, 0), None),
-        (&good, b"", (UNFINISHED, 0), None),
-        (&long, b"aa", (UNFINISHED, 0), None),
-        (&good, b"c", (DEAD, 1), Some(b"ab")),
-        (&long, b"aaca", (DEAD, 3), Some(b"ab")),
-        (&good, b"ab\0", (DEAD, 3), Some(b"")),
-        (&good, b"bbb", (DEAD, 2), Some(b"")),
-        (&none, b"", (DEAD, 0), Some(b"")),
-        (&none, b"a", (DEAD, 0), Some(b"")),
-    ];
-    for (room, text, answer, wanted) in rows {
-        let mut expected = [7; BYTES];
-        assert_eq!(second::match_text(room, text, &mut expected), answer);
-        assert_eq!(expected, marked(wanted), "{}", text.escape_ascii());
-    }
+    assert_eq!(second::match_text(&good, b"aab"), (ACCEPTED, 0));
 }
 
 #[test]
@@ -217,37 +182,30 @@ fn the_desk_changes_nothing_that_it_refuses() {
         assert_eq!(second::desk_open(count, rooms, &mut form[..length]), number);
         assert!(form.iter().all(|&byte| byte == 7));
     }
-    let key = second::desk_key(&rooms, &mut form, b'a', &mut [7; BYTES]);
-    assert_eq!(key, ROOM);
+    assert_eq!(second::desk_key(&rooms, &mut form, b'a'), ROOM);
     assert_eq!(second::desk_open(2, &rooms, &mut form), DONE);
-    let mut press = |keys: &[u8], number: u8, wanted: Option<&[u8]>| {
+    let mut press = |keys: &[u8], number: u8| {
         for &key in keys {
-            let (before, mut expected) = (form.clone(), [7; BYTES]);
-            let given = second::desk_key(&rooms, &mut form, key, &mut expected);
-            assert_eq!((given, expected), (number, marked(wanted)));
+            let before = form.clone();
+            assert_eq!(second::desk_key(&rooms, &mut form, key), number);
             assert!(number == DONE || form == before);
             assert_eq!(form[ENTRY_FORM..], [7; 4]);
         }
         form.clone()
     };
-    press(b"c\0\xff", DEAD_BYTE, Some(b"ab"));
-    press(b"\r", UNFINISHED_FIELD, None);
-    press(&[b'a'; TEXT], DONE, None);
-    press(b"abc\0", LENGTH, None);
-    let full = press(b"\r", UNFINISHED_FIELD, None);
-    press(b"\x08b", DONE, None);
-    press(b"\x08", DONE, None);
-    press(b"c", DEAD_BYTE, Some(b"ab"));
-    press(b"b", DONE, None);
-    press(b"\r", DONE, None);
-    press(b"ab", DEAD_BYTE, Some(b""));
-    let last = press(b"\r", UNFINISHED_FIELD, None);
+    press(b"c\0\xff", DEAD_BYTE);
+    press(b"\r", UNFINISHED_FIELD);
+    press(&[b'a'; TEXT], DONE);
+    press(b"abc\0", LENGTH);
+    let full = press(b"\r", UNFINISHED_FIELD);
+    press(b"\x08b\r", DONE);
+    press(b"ab", DEAD_BYTE);
+    let last = press(b"\r", UNFINISHED_FIELD);
     for key in 0..=255 {
         let judged = |form: &[u8], rooms: &[u8]| {
-            let (mut after, mut expected) = (form.to_vec(), [7; BYTES]);
-            let number = second::desk_key(rooms, &mut after, key, &mut expected);
+            let mut after = form.to_vec();
+            let number = second::desk_key(rooms, &mut after, key);
             assert!(number == DONE || after == form);
-            assert_eq!(expected, marked(None));
             number
         };
         assert_eq!(judged(&last[..ENTRY_FORM - 1], &rooms), ROOM);

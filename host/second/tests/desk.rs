@@ -5,7 +5,7 @@ use std::collections::HashSet;
 use cases::exhaustive::strings;
 use second::answer::FORM;
 use second::desk::{Desk, BACK, ENTER};
-use second::limits::{BYTES, ENTRY_FORM, LENGTH_AT, TEXT, TEXT_AT};
+use second::limits::{ENTRY_FORM, LENGTH_AT, TEXT, TEXT_AT};
 
 /// The rooms of patterns, end to end.
 fn rooms(patterns: &[&[u8]]) -> Vec<u8> {
@@ -27,7 +27,7 @@ fn form(count: usize, closed: usize, texts: &[Vec<u8>]) -> Vec<u8> {
 
 /// Whether a form is taken as one that keys lead to.
 fn taken(rooms: &[u8], form: &[u8]) -> bool {
-    second::desk_key(rooms, &mut form.to_vec(), BACK, &mut [0; BYTES]) != FORM
+    second::desk_key(rooms, &mut form.to_vec(), BACK) != FORM
 }
 
 /// All forms that any number of these keys leads to with no text longer than `most`.

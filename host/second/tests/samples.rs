@@ -15,11 +15,7 @@ fn run(operation: &str, reads: &[&[u8]]) -> Outcome {
     let answer = match operation {
         "compile" => placed(second::compile(reads[0], to, b, w)),
         "minimise" => (second::minimise(reads[0], to, b, w), 0, 0),
-        "match" => placed(second::match_text(
-            reads[0],
-            reads[1],
-            &mut [7; limits::BYTES],
-        )),
+        "match" => placed(second::match_text(reads[0], reads[1])),
         "compare" => second::compare(reads[0], reads[1], to, b, w),
         "pack" => placed(second::pack(reads[0], to, b, w)),
         "unpack" => (second::unpack(reads[0], to, b, w), 0, 0),

@@ -12,7 +12,7 @@ loop-i-init c = (search rules, holds (λ i h. absurd (omega arith)))
 pub loop-i-preserved : goal.loop-i-preserved
 loop-i-preserved c = let v = c.loop-i.invariant in
     let p = c.args in
-    elim c.if-a-i.branch [ then-a-i w ↦ rw w.alike-is (search rules, alike_not p.a.now p.b.now _ w.if-a-i.true) | else-a-i w ↦ rw w.1 (search rules, alike_more p.a.now p.b.now _ w.if-a-i.false v.1) ]
+    elim c.if-a-i.branch [ then-a-i w ↦ rw w.alike-is (search rules, alike_not p.a.now p.b.now _ w.if-a-i.true) | else-a-i w ↦ rw w.alike-is (search rules, alike_more p.a.now p.b.now _ w.if-a-i.false v.1) ]
 
 pub returns : goal.returns
 returns c = let e : c.loop-i.i ≡ c.args.n = omega arith in rw e at c.loop-i.invariant.1

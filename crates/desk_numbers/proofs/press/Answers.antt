@@ -2,4 +2,4 @@
 use Rattle.desk_numbers.proofs.press.Goals as goal
 
 pub returns : goal.returns
-returns c = rw c.number.ensures c.press_told-pressed.ensures
+returns c = rw c.number.ensures c.press-pressed.ensures

@@ -2,4 +2,4 @@
 use Rattle.match_numbers.proofs.match_text.Goals as goal
 
 pub returns : goal.returns
-returns c = rw (c.number.ensures, c.place.ensures) c.match_told-matched.ensures
+returns c = rw (c.number.ensures, c.place.ensures) c.match_text-matched.ensures

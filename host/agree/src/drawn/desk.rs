@@ -5,7 +5,7 @@ use second::desk::{Desk, BACK, ENTER};
 use second::limits::{self, FIELDS};
 use second::machine::Machine;
 
-use super::{content, legal, length, machine, marked, source};
+use super::{content, legal, length, machine, source};
 use crate::case::Case;
 use crate::many::Tally;
 
@@ -49,8 +49,7 @@ pub fn typing(seed: u64, number: u64) -> (Case, Vec<u8>) {
     if form.len() < limits::ENTRY_FORM || Desk::open(machines.len(), &rooms).is_none() {
         keys.truncate(2);
     }
-    let opening = Case::opening(machines.len(), &rooms, &form);
-    (marked(draw, opening), keys)
+    (Case::opening(machines.len(), &rooms, &form), keys)
 }
 
 /// The single call of a seed and a number: an opening, or a key on a form that is whole or damaged.
@@ -82,7 +81,7 @@ pub fn case(seed: u64, number: u64) -> Case {
         1 => draw.pick(b"\nab0"),
         _ => draw.key(&desk, Typing::Along),
     };
-    marked(draw, Case::pressing(&rooms, &form, key))
+    Case::pressing(&rooms, &form, key)
 }
 
 /// The machines of the fields, of one to four most often.

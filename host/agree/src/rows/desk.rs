@@ -1,20 +1,16 @@
 //! Rows of the entry desk.
 
-use second::answer::DEAD_BYTE;
 use second::desk::{BACK, ENTER};
 use second::limits;
 
-use super::{bytes, change, compiled, expect, outcome_of};
+use super::{bytes, change, compiled, expect};
 use crate::case::Case;
-use crate::run::Outcome;
-use crate::written::{set, written};
+use crate::run::{both, Outcome};
+use crate::written::written;
 
-/// The answer's number; of a dead byte also what could have stood in its place.
-fn told(outcome: &Outcome) -> String {
-    match outcome.answer.0 {
-        DEAD_BYTE => format!("{DEAD_BYTE}{}", set(&outcome.expected)),
-        number => number.to_string(),
-    }
+/// Both sides' outcome.
+fn outcome(case: &Case) -> Result<Outcome, String> {
+    both(case).map_err(|difference| difference.to_string())
 }
 
 /// What a row has before its arrow and after it.
@@ -36,26 +32,26 @@ fn rooms(patterns: &[&str]) -> Result<Vec<u8>, String> {
     Ok(rooms)
 }
 
-/// A form opened and typed: what opening and each key answered, and the form.
-fn after(fields: usize, rooms: &[u8], keys: &[u8]) -> Result<(Vec<String>, Vec<u8>), String> {
+/// A form opened and typed: the number of opening and of each key, and the form.
+fn after(fields: usize, rooms: &[u8], keys: &[u8]) -> Result<(Vec<u8>, Vec<u8>), String> {
     let mut case = Case::opening(fields, rooms, &[0xa5; limits::ENTRY_FORM]);
-    let mut last = outcome_of(&case)?;
-    let mut answers = vec![told(&last)];
+    let mut last = outcome(&case)?;
+    let mut numbers = vec![last.answer.0];
     for &key in keys {
-        case = case.next(last, key);
-        last = outcome_of(&case)?;
-        answers.push(told(&last));
+        case = case.next(last.output, key);
+        last = outcome(&case)?;
+        numbers.push(last.answer.0);
     }
-    Ok((answers, last.output))
+    Ok((numbers, last.output))
 }
 
-/// Answers between commas, `N*T` for a run of T.
-fn runs(answers: &[String]) -> String {
-    let (mut names, mut rest) = (Vec::new(), answers);
-    while let Some(first) = rest.first() {
-        let run = rest.iter().take_while(|&answer| answer == first).count();
+/// Numbers between commas, `N*T` for a run of T.
+fn runs(numbers: &[u8]) -> String {
+    let (mut names, mut rest) = (Vec::new(), numbers);
+    while let Some(&first) = rest.first() {
+        let run = rest.iter().take_while(|&&number| number == first).count();
         names.push(match run {
-            1 => first.clone(),
+            1 => first.to_string(),
             _ => format!("{first}*{run}"),
         });
         rest = &rest[run..];
@@ -63,12 +59,12 @@ fn runs(answers: &[String]) -> String {
     names.join(",")
 }
 
-/// `KEYS PATTERN... -> ANSWERS CLOSED TEXT...`.
+/// `KEYS PATTERN... -> NUMBERS CLOSED TEXT...`.
 pub fn typed(row: &[&str]) -> Result<(), String> {
     let (row, says) = sides(row)?;
     let patterns = &row[1..];
-    let (answers, form) = after(patterns.len(), &rooms(patterns)?, &bytes(row[0])?)?;
-    let mut found = format!("{} {}", runs(&answers), form[1]);
+    let (numbers, form) = after(patterns.len(), &rooms(patterns)?, &bytes(row[0])?)?;
+    let mut found = format!("{} {}", runs(&numbers), form[1]);
     for field in 0..patterns.len() {
         let from = limits::TEXT_AT + limits::TEXT * field;
         let length = usize::from(form[limits::LENGTH_AT + field]);
@@ -84,20 +80,21 @@ pub fn opened(row: &[&str]) -> Result<(), String> {
     let (count, form, length): (usize, usize, usize) = (number(0)?, number(1)?, number(2)?);
     let mut rooms = rooms(&row[3..])?;
     rooms.resize(length, 255);
-    let outcome = outcome_of(&Case::opening(count, &rooms, &vec![0xa5; form]))?;
+    let outcome = outcome(&Case::opening(count, &rooms, &vec![0xa5; form]))?;
     expect(outcome.answer.0, says)
 }
 
-/// `CHANGES KEYS PATTERN... -> ANSWERS`: the answers to three keys, each pressed on the form that the keys before gave, with bytes changed.
+/// `CHANGES KEYS PATTERN... -> NUMBERS`: the numbers of three keys, each pressed on the form that the keys before gave, with bytes changed.
 pub fn changed(row: &[&str]) -> Result<(), String> {
     let (row, says) = sides(row)?;
     let patterns = &row[2..];
     let rooms = rooms(patterns)?;
     let (_, mut form) = after(patterns.len(), &rooms, &bytes(row[1])?)?;
     change(&mut form, row[0])?;
-    let mut answers = Vec::new();
+    let mut numbers = Vec::new();
     for key in [BACK, ENTER, b'a'] {
-        answers.push(told(&outcome_of(&Case::pressing(&rooms, &form, key))?));
+        let outcome = outcome(&Case::pressing(&rooms, &form, key))?;
+        numbers.push(outcome.answer.0.to_string());
     }
-    expect(answers.join(" "), says)
+    expect(numbers.join(" "), says)
 }

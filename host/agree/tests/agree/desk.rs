@@ -1,8 +1,7 @@
 //! The entry desk: drawn ones, and all small cases of a kind.
 
 use agree::drawn::desk;
-use agree::{both, many, small, Case};
-use second::answer::DEAD_BYTE;
+use agree::{many, small, Case};
 use second::desk::{Desk, BACK, ENTER};
 use second::limits::ENTRY_FORM;
 
@@ -41,19 +40,6 @@ fn form(count: usize, rooms: &[u8], keys: &[u8]) -> Vec<u8> {
         desk.key(key);
     });
     desk.form()
-}
-
-#[test]
-fn the_next_key_is_lent_what_was_left() {
-    let rooms = rooms(&[b"(ab*|a)b"]);
-    let opening = Case::opening(1, &rooms, &[0xa5; ENTRY_FORM]);
-    let opened = both(&opening).expect("one outcome");
-    assert_eq!(opened.expected, opening.expected);
-    let refused = opening.next(opened, b'c');
-    let left = both(&refused).expect("one outcome");
-    assert!(left.answer.0 == DEAD_BYTE && left.expected != refused.expected);
-    let next = refused.next(left.clone(), b'a');
-    assert_eq!((next.output, next.expected), (left.output, left.expected));
 }
 
 /// The patterns of small desks: among them fields that are empty, that have no word, and that have 0x08, 0x0A or 0x0D in their words.

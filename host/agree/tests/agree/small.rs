@@ -8,7 +8,6 @@ use second::derive::Language;
 use second::desk::BACK;
 use second::judge::judge;
 use second::limits;
-use second::text::ByteSet;
 
 use crate::say;
 
@@ -21,15 +20,6 @@ pub fn all(what: &str, cases: impl Iterator<Item = Case>) -> Tally {
     say(format!("agree: {} cases, {what}\n{tally}", tally.cases));
     tally.check();
     tally
-}
-
-/// The marks of a set of bytes.
-fn marks(set: ByteSet) -> [u8; limits::BYTES] {
-    let mut marks = [0; limits::BYTES];
-    set.bytes()
-        .iter()
-        .for_each(|&byte| marks[usize::from(byte)] = 1);
-    marks
 }
 
 /// The room of a pattern that is taken.
@@ -58,13 +48,10 @@ fn all_short_strings_matched() {
         let room = room(&pattern);
         let mut language = Language::new(&judge(&pattern).expect("a taken pattern"));
         for text in strings(b"\0\nabc", 3) {
-            let mut expected = [0xc7; limits::BYTES];
-            let answer = palgondur::raw::match_text(&room, &text, &mut expected);
-            let (number, place, set) = language.answer(&text);
-            let marks = set.map_or([0xc7; limits::BYTES], marks);
+            let answer = palgondur::raw::match_text(&room, &text);
             assert_eq!(
-                (answer, expected),
-                ((number, place), marks),
+                answer,
+                language.answer(&text),
                 "{} {}",
                 pattern.escape_ascii(),
                 text.escape_ascii()
@@ -200,9 +187,7 @@ fn all_lengths_of_buffers() {
     }
     for room in [&good, &bad, &astray, &double] {
         cases.extend(small::buffers(Operation::Minimise, &[room], limits::ROOM));
-        for text in [&b"aab"[..], b"aaca", b"aa"] {
-            cases.extend(small::buffers(Operation::Match, &[room, text], 0));
-        }
+        cases.extend(small::buffers(Operation::Match, &[room, b"aab"], 0));
         cases.extend(small::buffers(Operation::Pack, &[room], exact));
         cases.extend(small::buffers(
             Operation::Compare,

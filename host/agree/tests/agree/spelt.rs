@@ -1,7 +1,6 @@
-//! Rooms and marks that bytes spell.
+//! Rooms that bytes spell.
 
 use agree::{both, spelt, Operation};
-use second::limits::BYTES;
 
 #[test]
 fn a_spelt_room_has_the_right_ways_unless_others_are_spelt() {
@@ -26,23 +25,5 @@ fn a_spelt_room_has_the_right_ways_unless_others_are_spelt() {
         let case = spelt::case(Operation::Match, &bytes);
         let outcome = both(&case).unwrap_or_else(|difference| panic!("{difference}"));
         assert_eq!(outcome.answer.0, number, "{bytes:02x?}");
-    }
-}
-
-#[test]
-fn marks_are_spelt_by_the_first_byte() {
-    // The first byte; the marks of a match, and those of a key.
-    let rows = [
-        (0x00, 0xa5, 0xa5),
-        (0x40, 0, 0xa5),
-        (0x90, 0xff, 0),
-        (0xe0, 1, 0xff),
-        (0x30, 0xa5, 1),
-    ];
-    for (first, matching, key) in rows {
-        for (operation, mark) in [(Operation::Match, matching), (Operation::DeskKey, key)] {
-            let case = spelt::case(operation, &[first]);
-            assert_eq!(case.expected, [mark; BYTES], "{first:02x}");
-        }
     }
 }

@@ -5,12 +5,10 @@ mod drawn;
 mod files;
 mod keys;
 mod leaving;
-mod offered;
 mod pastes;
 mod rule;
 mod sizes;
 mod terminal;
-mod wanted;
 
 use terminal::Display;
 
@@ -62,7 +60,7 @@ fn the_form_is_drawn() {
         "          check value    ______",
         "          card serial    _________",
         "",
-        "  key component: 32 hex digits, in capitals (at least 32 more; next 0–9 or A–F)",
+        "  key component: 32 hex digits, in capitals (at least 32 more)",
         "",
         "",
         "  Enter closes the open field, Backspace takes back a byte, Ctrl-R shows what is",
@@ -80,10 +78,8 @@ fn the_form_is_drawn() {
 
 #[test]
 fn the_form_is_filled_in() {
-    let instead = |key: &str, keys: &str| format!("{key} can't stand here: {keys}");
-    let dead = |key: &str| instead(key, "0–9 or A–F");
-    let early =
-        |more: usize| format!("Enter refused: at least {more} more to finish; next 0–9 or A–F");
+    let dead = |key: &str| format!("{key} refused: no text of this field goes on this way");
+    let early = |more: usize| format!("Enter refused: at least {more} more to finish");
     let none = String::new;
     let (component, check, serial) = ("0123456789ABCDEFFEDCBA9876543210", "8CA64D", "PK-004711");
     let stars = |length: usize| "*".repeat(length);
@@ -95,8 +91,8 @@ fn the_form_is_filled_in() {
     // The keys; then the open field, its text as it is shown, and the message after them.
     let rows = [
         ("0123", first(&stars(4), none())),
-        ("G", first(&stars(4), dead("G"))),
-        ("a", first(&stars(4), dead("a"))),
+        ("G", first(&stars(4), dead("'G'"))),
+        ("a", first(&stars(4), dead("'a'"))),
         ("4", first(&stars(5), none())),
         ("\r", first(&stars(5), early(27))),
         ("\x7F", first(&stars(4), none())),
@@ -107,10 +103,7 @@ fn the_form_is_filled_in() {
         (&component[3..31], first(&component[..31], none())),
         ("\r", first(&component[..31], early(1))),
         ("0", first(component, none())),
-        (
-            "G",
-            first(component, instead("G", "nothing can follow: press Enter")),
-        ),
+        ("0", first(component, dead("'0'"))),
         ("\x12", first(&stars(32), none())),
         ("\r", second("", none())),
         // A closed field is not opened again.
@@ -120,9 +113,9 @@ fn the_form_is_filled_in() {
         ("D", second(check, none())),
         ("\r", third("", none())),
         ("P", third("P", none())),
-        ("-", third("P", instead("'-'", "A–Z"))),
+        ("-", third("P", dead("'-'"))),
         ("K", third("PK", none())),
-        ("4", third("PK", instead("4", "'-'"))),
+        ("4", third("PK", dead("'4'"))),
         ("-004711", third(serial, none())),
     ];
     for to_terminal in [true, false] {
@@ -134,7 +127,7 @@ fn the_form_is_filled_in() {
             display.key(keys.as_bytes());
             let wanted = (text.clone(), message.clone());
             assert_eq!(shown(&display, label), wanted, "after {keys:?}");
-            bells += usize::from(!message.is_empty());
+            bells += usize::from(message.contains("refused"));
             assert_eq!(display.bells(), bells, "after {keys:?}");
             field += u16::from(*keys == "\r" && message.is_empty());
             let column = 25 + text.len();

@@ -8,17 +8,16 @@ fn paste(text: &[u8]) -> Vec<u8> {
     [b"\x1B[200~", text, b"\x1B[201~"].concat()
 }
 
-/// What is said of a paste of so many bytes, where this is said of one of them.
-fn refused(name: &str, place: usize, length: usize, said: &str) -> String {
+/// What is said of a paste of so many bytes, where one of them is refused.
+fn refused(name: &str, place: usize, length: usize, reason: &str) -> String {
     let (taken, rest) = (place - 1, length - place);
     let counted = format!("{taken} taken, {rest} behind it not tried");
-    format!("{name}, byte {place} of {length} in the paste, {said}; {counted}")
+    format!("{name}, byte {place} of {length} in the paste, refused: {reason}; {counted}")
 }
 
-/// What is said of a byte where a digit could stand, where nothing could, and of one that is a key.
-const DEAD: &str = "can't stand here: 0–9 or A–F";
-const FULL: &str = "can't stand here: nothing can follow: press Enter";
-const NONE: &str = "refused: no text that is typed has it";
+/// What the desk says of a byte, and what the display says of one that is a key.
+const DEAD: &str = "no text of this field goes on this way";
+const NONE: &str = "no text that is typed has it";
 
 #[test]
 fn a_paste_stops_at_the_first_refused_byte() {
@@ -29,7 +28,7 @@ fn a_paste_stops_at_the_first_refused_byte() {
             let mut text = digits.as_bytes()[..length].to_vec();
             text[wrong] = b'g';
             display.key(&paste(&text));
-            let wanted = refused("g", wrong + 1, length, DEAD);
+            let wanted = refused("'g'", wrong + 1, length, DEAD);
             let seen = shown(&display, "component");
             assert_eq!(seen, (digits[..wrong].to_string(), wanted));
             assert_eq!(display.cursor(), (2, (21 + wrong) as u16));
@@ -59,7 +58,7 @@ fn a_paste_is_judged_and_never_repaired() {
         (paste(b"\x1B[A9"), 9, refused("Escape", 1, 4, NONE)),
         (paste(b"9\x1B[20"), 10, refused("Escape", 2, 5, NONE)),
         (paste("Aé".as_bytes()), 11, refused("'é'", 2, 3, NONE)),
-        (paste(b"BCDEF0"), 16, refused("0", 6, 6, FULL)),
+        (paste(b"BCDEF0"), 16, refused("'0'", 6, 6, DEAD)),
         (paste(b""), 16, "pasted, 0 of 0 bytes taken".to_string()),
         // Ctrl-C alone is heard within a paste that does not end; then the line is free again.
         (
@@ -83,10 +82,9 @@ fn a_paste_is_judged_and_never_repaired() {
 fn a_remark_stays_one_line() {
     let mut display = Display::start(&[&form("remark")], USUAL);
     display.key(b"\r");
-    let dead = "can't stand here: any key but Line end, or Enter";
     let rows: [(Vec<u8>, &str, String); 3] = [
-        (paste(b"one\ntwo"), "one", refused("Line end", 4, 7, dead)),
-        (b"\n".to_vec(), "one", format!("Line end {dead}")),
+        (paste(b"one\ntwo"), "one", refused("Line end", 4, 7, DEAD)),
+        (b"\n".to_vec(), "one", format!("Line end refused: {DEAD}")),
         (
             paste(b" two"),
             "one two",
@@ -117,8 +115,8 @@ fn a_paste_may_come_in_pieces_and_be_long() {
     display.key(b"\r");
     display.send(&paste(&[b'0'; 3_000]));
     display.until(|screen| screen.contents().contains("of 3000"));
-    let said = "refused: a field has at most 128 bytes";
-    let wanted = ("*".repeat(59), refused("0", 129, 3_000, said));
+    let reason = "a field has at most 128 bytes";
+    let wanted = ("*".repeat(59), refused("'0'", 129, 3_000, reason));
     assert_eq!(shown(&display, "secret"), wanted);
     assert_eq!(display.rows().concat().matches('*').count(), 128);
 }

@@ -4,7 +4,7 @@
 //! So `ab\rc` has one field closed, with `ab`, and the next one open, with `c`.
 
 use crate::{agree, machine};
-use palgondur::{limits, raw, ByteSet, Desk, KeyRefusal, Machine, OpenRefusal};
+use palgondur::{raw, Desk, KeyRefusal, Machine, OpenRefusal};
 use std::fmt;
 
 /// The bytes of a room, and of an entry form.
@@ -232,13 +232,7 @@ fn keys_are_answered_through_the_type() {
     agree(&plays(), |play| {
         let mut desk = Desk::open(&machines(&play.0)).unwrap();
         odd(play, |key| {
-            let follow = desk.can_follow(desk.closed());
-            let answer = desk.key(key);
-            // A dead byte comes with what could have stood there.
-            if let Err(KeyRefusal::DeadByte(expected)) = answer {
-                assert_eq!(expected, follow);
-            }
-            let number = answer.map_or_else(KeyRefusal::number, |()| 0);
+            let number = desk.key(key).map_or_else(KeyRefusal::number, |()| 0);
             (number, desk.form().to_vec())
         })
     });
@@ -254,36 +248,16 @@ fn keys_are_answered_on_bare_slices() {
 }
 
 /// Gives a key on bare slices: the number of its answer. It must be the same on longer slices, of which the rest is
-/// left as it was; and a refusal must leave the form as it was. What is expected must be said with a dead byte alone.
+/// left as it was; and a refusal must leave the form as it was.
 fn pressed(rooms: &[u8], form: &mut [u8], key: u8) -> u8 {
     let (before, mut more) = (form.to_vec(), longer(form));
-    let (mut expected, mut other) = ([0xEE; limits::BYTES], [0xEE; limits::BYTES]);
-    let number = raw::desk_key(rooms, form, key, &mut expected);
-    let again = raw::desk_key(&longer(rooms), &mut more, key, &mut other);
-    assert_eq!((again, other), (number, expected));
-    assert_eq!(expected, said(rooms, form, key, number));
+    let number = raw::desk_key(rooms, form, key);
+    assert_eq!(raw::desk_key(&longer(rooms), &mut more, key), number);
     assert_eq!(Bytes(more), Bytes(longer(form)));
     if number != 0 {
         assert_eq!(Bytes(form.to_vec()), Bytes(before));
     }
     number
-}
-
-/// What is to be said of the bytes expected: with a dead byte what matching says of the open field's text and that
-/// byte, else nothing.
-fn said(rooms: &[u8], form: &[u8], key: u8, number: u8) -> [u8; limits::BYTES] {
-    let mut expected = [0xEE; limits::BYTES];
-    if number == 10 {
-        let open = usize::from(form[1]);
-        let text = &form[18 + 128 * open..][..usize::from(form[2 + open])];
-        let dead = raw::match_text(
-            &rooms[open * ROOM..],
-            &[text, &[key]].concat(),
-            &mut expected,
-        );
-        assert_eq!(dead.0, raw::DEAD);
-    }
-    expected
 }
 
 /// The keys that every form from outside is given, each on its own.
@@ -420,10 +394,8 @@ fn short_slices_are_refused() {
         before.truncate(form_length);
         KEYS.map(|key| {
             let mut form = before.clone();
-            let mut expected = [0xEE; limits::BYTES];
-            let number = raw::desk_key(&rooms, &mut form, key, &mut expected);
+            let number = raw::desk_key(&rooms, &mut form, key);
             assert!(number == 0 || form == before);
-            assert_eq!(number == 10, expected != [0xEE; limits::BYTES]);
             number
         })
     });
@@ -542,27 +514,6 @@ fn the_type_tells_how_many_bytes_more_a_field_wants() {
 }
 
 #[test]
-fn the_type_tells_what_can_follow_in_a_field() {
-    let patterns = ["[0-9][0-9]", "abcd|b", "\\x08|\\x0D", "\\0"];
-    // The keys; what can follow in each field. The fourth has no text at all, and there is no fifth.
-    let rows = [
-        ("", ["[0-9]", "[ab]", "[\\x08\\x0D]", "[]", "[]"]),
-        ("4", ["[0-9]", "[ab]", "[\\x08\\x0D]", "[]", "[]"]),
-        ("42", ["[]", "[ab]", "[\\x08\\x0D]", "[]", "[]"]),
-        ("42\ra", ["[]", "[b]", "[\\x08\\x0D]", "[]", "[]"]),
-        ("42\ra\x08", ["[]", "[ab]", "[\\x08\\x0D]", "[]", "[]"]),
-        ("42\rabcd\r", ["[]", "[]", "[\\x08\\x0D]", "[]", "[]"]),
-    ];
-    let rows = rows.map(|(keys, shown)| (keys, shown.map(str::to_string)));
-    agree(&rows, |keys| {
-        let mut desk = Desk::open(&machines(&patterns)).unwrap();
-        assert!(keys.bytes().all(|key| desk.key(key).is_ok()));
-        assert!(desk.can_follow(usize::MAX).is_empty());
-        [0, 1, 2, 3, 4].map(|field| desk.can_follow(field).to_string())
-    });
-}
-
-#[test]
 fn the_desk_does_not_show_what_was_typed() {
     let mut desk = Desk::open(&machines(&["5*", "a"])).unwrap();
     assert!(b"55\r".iter().all(|key| desk.key(*key).is_ok()));
@@ -571,12 +522,11 @@ fn the_desk_does_not_show_what_was_typed() {
 
 #[test]
 fn the_desks_refusals_have_their_number_and_sentence() {
-    let mut expected = [0; limits::BYTES];
-    (expected[0], expected[255]) = (1, 1);
-    let marked: ByteSet = [0, 255].into_iter().collect();
-    let dead = "no text of this field goes on this way; [\\x00\\xFF] can stand here";
     let rows = [
-        (KeyRefusal::DeadByte(marked), (10, dead)),
+        (
+            KeyRefusal::DeadByte,
+            (10, "no text of this field goes on this way"),
+        ),
         (
             KeyRefusal::Unfinished,
             (11, "the text of this field is not finished"),
@@ -587,14 +537,11 @@ fn the_desks_refusals_have_their_number_and_sentence() {
     let rows = rows.map(|(refusal, (number, sentence))| (refusal, (number, sentence.to_string())));
     agree(&rows, |refusal| (refusal.number(), refusal.to_string()));
     for (refusal, (number, _)) in &rows {
-        assert_eq!(KeyRefusal::of(*number, &expected), Some(*refusal));
+        assert_eq!(KeyRefusal::of(*number), Some(*refusal));
     }
     for number in (0..=u8::MAX).filter(|number| !(10..=13).contains(number)) {
-        assert_eq!(KeyRefusal::of(number, &expected), None);
+        assert_eq!(KeyRefusal::of(number), None);
     }
-    let sentence = KeyRefusal::DeadByte(ByteSet::default()).to_string();
-    let wanted = "no text of this field goes on this way; nothing can stand here";
-    assert_eq!(sentence, wanted);
     let fields = OpenRefusal::Fields(17);
     assert_eq!(fields.number(), 21);
     assert_eq!(fields.to_string(), "a form has 1 to 16 fields, not 17");

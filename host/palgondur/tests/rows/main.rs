@@ -1,7 +1,6 @@
 //! The library through its types: the samples, and rows of questions and answers that are its own, all run by `agree`.
 
 mod desk;
-mod expected;
 
 use cases::samples;
 use palgondur::{limits, Comparison, Form, Machine, Match, Refusal, Scratch};
@@ -371,7 +370,6 @@ fn the_sizes_are_those_of_the_rules() {
         (8_834, 7_379, 254)
     );
     assert_eq!((limits::WAYS_AT, limits::NO_WAY), (8_578, 65_535));
-    assert_eq!(limits::BYTES, 256);
     assert_eq!(
         (limits::FIELDS, limits::TEXT, limits::ENTRY),
         (16, 128, 2_066)
