@@ -1,4 +1,4 @@
-use Prim.Native.Nat.{◌+◌, ◌-◌}
+use Prim.Native.Nat.{◌+◌}
 use mathlib.Core.Path.{◌≡◌}
 use borrow.Author.Rules.{rules}
 use Rattle.ways.specs.Held.{block}
@@ -11,7 +11,7 @@ loop-i-init c = (search rules, search rules, occurs_none _ _ _)
 
 pub loop-i-preserved : goal.loop-i-preserved
 loop-i-preserved c = let v = c.loop-i.invariant in
-    (search rules, search rules, elim c.if-room-i.branch [ then-room-i w ↦ rw w.1 (occurs_more v.2 v.0 w.if-room-i.true) | else-room-i w ↦ rw w.1 (occurs_not v.2 w.if-room-i.false) ])
+    (search rules, search rules, elim c.if-room-i.branch [ then-room-i w ↦ rw w.found-is (occurs_more v.2 v.0 w.if-room-i.true) | else-room-i w ↦ rw w.found-is (occurs_not v.2 w.if-room-i.false) ])
 
 pub returns : goal.returns
 returns c = let v = c.loop-i.invariant in
