@@ -1,18 +1,10 @@
-use Prim.Native.Nat.{ℕ, ◌-◌}
 use mathlib.Core.Path.{◌≡◌, ◌∙◌, sym}
-use mathlib.Core.List.{List}
 use native.Mathlib.Omega.{arith}
 use borrow.Author.Rules.{rules}
-use lib.Dec.{eqb}
-use lib.ListN.{get_or}
-use Rattle.scope.specs.Machines.Room.{mark_of}
 use Rattle.buffers.proofs.OneMore.{holds, each_more, each_not}
-use Rattle.soundness.specs.WaysJudged.{key_of, right_key}
+use Rattle.soundness.proofs.are_right.Invariants.{Right}
 use Rattle.soundness.proofs.are_right.Goals as goal
 use Rattle.soundness.proofs.are_right.Goals.{else-key-right_key, then-key-right_key}
-
-abbrev Right : List ℕ → List ℕ → ℕ → Type 0
-Right room least q = key_of room q ≡ right_key (eqb (mark_of room q) 1) (get_or least q 0)
 
 pub loop-q-init : goal.loop-q-init
 loop-q-init c = (search rules, holds (λ j h. absurd (omega arith)))
@@ -22,7 +14,10 @@ loop-q-preserved c = let l = c.loop-q in let P = Right c.args.room.now c.args.le
     let e = c.key.ensures in
     let f = c.right_key.ensures in (
       search rules,
-      elim c.if-key-right_key.branch [ then-key-right_key w ↦ rw w.1 (each_not P (omega arith) l.invariant.1 (λ z. w.if-key-right_key.true (e ∙ z ∙ sym f))) | else-key-right_key w ↦ rw w.1 (each_more P (omega arith) l.invariant.1 (sym e ∙ w.if-key-right_key.false ∙ f)) ],
+      elim c.if-key-right_key.branch [
+        | then-key-right_key w ↦ rw w.right-is (each_not P (omega arith) l.invariant.1 (λ z. w.if-key-right_key.true (e ∙ z ∙ sym f)))
+        | else-key-right_key w ↦ rw w.right-is (each_more P (omega arith) l.invariant.1 (sym e ∙ w.if-key-right_key.false ∙ f))
+      ],
     )
 
 pub returns : goal.returns

@@ -1,22 +1,23 @@
-use Prim.Native.Nat.{ℕ, ◌+◌, ◌-◌, ◌*◌, ◌≤◌}
+use Prim.Native.Nat.{ℕ, ◌+◌, ◌*◌, ◌≤◌, ◌<◌}
 use mathlib.Core.Path.{◌≡◌, refl}
 use mathlib.Core.Bool.{Bool}
+use mathlib.Core.List.{List}
 use native.Mathlib.Omega.{arith}
-use lib.ListN.{length-replicate}
-use Rattle.scope.specs.Limits.{class_limit, state_limit, ways_at, room_bytes}
-use Rattle.scope.specs.Machines.Room.{states_of, Below, SoundWays}
+use lib.ListN.{get_or, length-replicate}
+use Rattle.scope.specs.Limits.{byte_values, class_limit, state_limit, ways_at, room_bytes}
+use Rattle.scope.specs.Machines.Room.{states_of, Below, SoundTable, SoundWays}
 use Rattle.buffers.specs.Stored.{Decides}
 use Rattle.buffers.proofs.OneMore.{and_true, and_false}
+use Rattle.ways.specs.Held.{HeldClasses}
 use Rattle.ways.proofs.HeldClasses.{held_below, held_some}
-use Rattle.soundness.specs.WaysJudged.{four, RightKeys}
+use Rattle.soundness.specs.WaysJudged.{four, Lowered, RightKeys}
 use Rattle.soundness.proofs.WaysJudged.{ways_judged}
 use Rattle.soundness.proofs.are_ways.Goals as goal
 
-judged : (c : tie.After-are-right invariant-loop decreases-loop) {t : Bool}
-    → (let m = c.before.before.before.before.before.before.before.before.before.before.before.args.room.now in Decides t (RightKeys m c.before.before.before.loop.least (states_of m) × Below m (ways_at + states_of m * 2) room_bytes 1) → Decides t (SoundWays m))
-judged c =
-    let e : c.before.before.before.loop.i ≡ c.before.before.before.before.before.before.before.held.result = omega (arith, c.before.before.before.loop.invariant.1, c.before.before.loop-test.false) in
-    ways_judged c.before.before.before.before.before.before.before.before.before.before.before.requires (λ j. omega (arith, c.before.before.before.before.before.before.before.before.before.before.shared-slice-known.given j)) c.before.before.before.before.before.before.before.held.ensures (rw e at c.before.before.before.loop.invariant.2)
+judged : {m l least : List ℕ} {i n s : ℕ} {t : Bool} → SoundTable m → ((j : ℕ) → get_or m j 0 < byte_values) → HeldClasses m l n
+    → i ≡ n → Lowered m l i (states_of m) least → s ≡ states_of m
+    → Decides t (RightKeys m least s × Below m (ways_at + s * 2) room_bytes 1) → Decides t (SoundWays m)
+judged s g h e o f d = ways_judged s g h (rw e at o) (rw f at d)
 
 pub held-count-requires : goal.held-count-requires
 held-count-requires c = (c.requires, length-replicate {A = ℕ} class_limit 0)
@@ -41,8 +42,11 @@ loop-i-preserved c =
     (omega (arith, c.loop-i.invariant.0), four-left, c.lower.ensures)
 
 pub returns-then-are_right : goal.returns-then-are_right
-returns-then-are_right c = let e = c.head-n.ensures.0 in
-    judged c (and_true (rw e at c.are_right.ensures) c.if-are_right.true (rw e at c.are_below.ensures) refl)
+returns-then-are_right c =
+    judged c.requires (λ j. omega (arith, c.type_inv.room j)) c.held-count.ensures (omega (arith, c.loop-i.invariant.1, c.loop-i-test.false)) c.loop-i.invariant.2 c.head-n.ensures.0
+    (and_true c.are_right.ensures c.if-are_right.true c.are_below.ensures refl)
 
 pub returns-else-are_right : goal.returns-else-are_right
-returns-else-are_right c = let e = c.head-n.ensures.0 in judged c (and_false (rw e at c.are_right.ensures) c.if-are_right.false refl)
+returns-else-are_right c =
+    judged c.requires (λ j. omega (arith, c.type_inv.room j)) c.held-count.ensures (omega (arith, c.loop-i.invariant.1, c.loop-i-test.false)) c.loop-i.invariant.2 c.head-n.ensures.0
+    (and_false c.are_right.ensures c.if-are_right.false refl)
