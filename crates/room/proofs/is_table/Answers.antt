@@ -6,24 +6,16 @@ use borrow.Author.Rules.{rules}
 use Rattle.buffers.proofs.OneMore.{fails, and_true, and_false}
 use Rattle.buffers.specs.Stored.{Decides}
 use Rattle.room.proofs.HeadAndParts.{PartsBelow, sound-last, sound_not}
-use Rattle.room.proofs.is_table.Reads as reads
-use Rattle.room.proofs.is_table.Lts as lts
-use Rattle.room.proofs.head.Reads as head-reads
-use Rattle.room.proofs.are_below.Reads as below-reads
-use Rattle.buffers.proofs.are_zero.Reads as zero-reads
 use Rattle.room.proofs.is_table.Goals as goal
+use Rattle.room.proofs.is_table.Goals.{Joined-are_below-3}
 
-judged :
-    (d : lts.Joined8 (head-reads.Asked, head-reads.Learnt, below-reads.Asked, below-reads.Learnt, zero-reads.Asked, zero-reads.Learnt) reads.Pre reads.Post)
-    → (let h = d.before.before.before.before.before.before.before.before in
-    Decides d.if8.if9 (PartsBelow h.before.before.before.args.room.now h.head.result.states h.head.result.classes))
+judged : (d : Joined-are_below-3) → Decides d.if-are_below-3.value (PartsBelow d.args.room.now d.head-machine.result.states d.head-machine.result.classes)
 judged d =
-    let h = d.before.before.before.before.before.before.before.before in
-    let one = d.before.before.before.are-below.ensures in
-    let two = ⊎_elim (λ w. and_true one w.0.taken w.1.ensures w.2) (λ w. and_false one w.0.left w.1) d.before.before.if6.branch in
-    let three = ⊎_elim (λ w. and_true two w.0.taken w.1.ensures w.2) (λ w. and_false two w.0.left w.1) d.before.if7.branch in
-    ⊎_elim {C = Decides d.if8.if9 (PartsBelow h.before.before.before.args.room.now h.head.result.states h.head.result.classes)}
-    (λ w. and_true three w.0.taken w.1.ensures w.2) (λ w. and_false three w.0.left w.1) d.if8.branch
+    let one = d.are_below.ensures in
+    let two = ⊎_elim (λ w. and_true one w.if-are_below.true w.are_below-then-are_below.ensures w.value-is) (λ w. and_false one w.if-are_below.false w.value-is) d.if-are_below.branch-raw in
+    let three = ⊎_elim (λ w. and_true two w.if-are_below-2.true w.are_below-then-are_below-2.ensures w.value-is) (λ w. and_false two w.if-are_below-2.false w.value-is) d.if-are_below-2.branch-raw in
+    ⊎_elim {C = Decides d.if-are_below-3.value (PartsBelow d.args.room.now d.head-machine.result.states d.head-machine.result.classes)}
+    (λ w. and_true three w.if-are_below-3.true w.are_below-then-are_below-3.ensures w.value-is) (λ w. and_false three w.if-are_below-3.false w.value-is) d.if-are_below-3.branch-raw
 
 pub returns-then-room-lt-ROOM : goal.returns-then-room-lt-ROOM
 returns-then-room-lt-ROOM c = fails (λ s. omega (arith, s.long))
@@ -55,8 +47,8 @@ are_zero-requires c = (omega (arith, mul-le-mul c.if-n-gt-STATES.false c.if-k-gt
 pub returns-then-are_below-4 : goal.returns-then-are_below-4
 returns-then-are_below-4 c = sound-last c.if-room-lt-ROOM.false c.head-machine.ensures.0 c.head-machine.ensures.1
     (c.if-n-lt1.false, c.if-n-gt-STATES.false, c.if-k-lt1.false, c.if-k-gt-CLASSES.false)
-    ((judged c).yes c.if-are_below-4.true) c.are_zero.ensures
+    ((judged (goal.at.returns-then-are_below-4 c).Joined-are_below-3).yes c.if-are_below-4.true) c.are_zero.ensures
 
 pub returns-else-are_below-4 : goal.returns-else-are_below-4
 returns-else-are_below-4 c = let h = c.head-machine.ensures in
-    sound_not h.0 h.1 c.if-are_below-4.false (judged c)
+    sound_not h.0 h.1 c.if-are_below-4.false (judged (goal.at.returns-else-are_below-4 c).Joined-are_below-3)

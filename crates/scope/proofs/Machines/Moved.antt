@@ -12,7 +12,7 @@ use native.Mathlib.Omega.{arith}
 use lib.Dec.{eqb}
 use lib.ListN.{length, get_or}
 use Rattle.scope.specs.Limits.{byte_values, classes_at, marks_at, cells_at, ways_at, room_bytes}
-use Rattle.scope.specs.Machines.Machine.{Same, Closed}
+use Rattle.scope.specs.Machines.Machine.{Same}
 use Rattle.scope.specs.Machines.Room.{states_of, classes_of, class_of, next_of, machine, Below, SoundTable, WayBeside, Sound, SameTables, SameBytes}
 use Rattle.scope.specs.Machines.Canonical.{entry, CanonicalTable, Canonical}
 use Rattle.scope.proofs.Counting.Tests.{split}

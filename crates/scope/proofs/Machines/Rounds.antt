@@ -10,13 +10,11 @@ use Prim.Native.Nat.{ℕ, zero, suc, ◌+◌, ◌-◌, ◌≤◌, ◌<◌}
 use mathlib.Core.Path.{◌≡◌, refl, sym, ◌∙◌}
 use mathlib.Core.Bool.{Bool, true, ◌&&◌, beq, false≢true}
 use mathlib.Core.Logic.{inl, inr, ◌↔◌}
-use mathlib.Core.List.{List, [], ◌∷◌}
+use mathlib.Core.List.{[], ◌∷◌}
 use native.Mathlib.Omega.{arith}
 use native.Mathlib.Decide.{map_dec}
-use lib.ListN.{length}
 use Rattle.scope.specs.Limits.{byte_values}
-use Rattle.scope.specs.Bytes.{Bytes}
-use Rattle.scope.specs.Machines.Machine.{Machine, run, Same, Closed}
+use Rattle.scope.specs.Machines.Machine.{Machine, Same, Closed}
 use Rattle.scope.specs.Machines.Rounds.{Together, Rests, Rounds, Untold, Enough}
 use Rattle.scope.specs.Count.{Over}
 use Rattle.scope.specs.Tests.{Tests}

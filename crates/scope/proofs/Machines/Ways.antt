@@ -6,7 +6,7 @@ use mathlib.Core.Path.{◌≡◌, refl, sym, ◌∙◌}
 use mathlib.Core.List.{List}
 use native.Mathlib.Omega.{arith}
 use Rattle.scope.specs.Machines.Machine.{Machine, Same}
-use Rattle.scope.specs.Machines.Ways.{Home, Fewest, Way, fewest, none}
+use Rattle.scope.specs.Machines.Ways.{Home, Way, fewest, none}
 
 pub way_one : {M : Machine} {q d e : ℕ} → Way M q d → Way M q e → d ≡ e
 way_one (fewest x) (fewest y) = omega (arith, x.least y.word y.home, y.least x.word x.home, x.long, y.long)

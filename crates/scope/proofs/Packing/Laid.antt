@@ -12,9 +12,9 @@ use lib.Dec.{lit<}
 use lib.ListN.{length, get_or, take, drop, length-append, get_or-eq_default}
 use lib.Seq.{get_or-take, get_or-drop}
 use Rattle.scope.specs.Limits.{byte_values, class_limit, state_limit, classes_at, marks_at, cells_at, room_bytes}
-use Rattle.scope.specs.Machines.Room.{states_of, classes_of, Below, SoundTable, Sound, SameTables, SameBytes}
-use Rattle.scope.specs.Packing.PackedForm.{state_bits, bits, fields, value, form_bits, form_length, form_byte, FormOf}
-use Rattle.scope.specs.Packing.Laid.{bit_of, from, Holds, classes_bit, marks_bit, cells_bit, end_bit, Laid, Framed}
+use Rattle.scope.specs.Machines.Room.{states_of, classes_of, SoundTable, Sound, SameTables, SameBytes}
+use Rattle.scope.specs.Packing.PackedForm.{bits, fields, value, form_bits, form_length, form_byte, FormOf}
+use Rattle.scope.specs.Packing.Laid.{bit_of, from, Holds, cells_bit, end_bit, Laid, Framed}
 use Rattle.scope.proofs.Counting.Tests.{split}
 use Rattle.scope.proofs.Machines.Room.{SameParts, bytes-from-parts}
 use Rattle.scope.proofs.Machines.Moved.{tables_bytes}

@@ -1,4 +1,3 @@
-use Prim.Native.Nat.{◌-◌}
 use mathlib.Core.Path.{refl}
 use native.Mathlib.Omega.{arith}
 use borrow.Author.Rules.{rules}
@@ -11,7 +10,7 @@ pub loop-w-init : goal.loop-w-init
 loop-w-init c = (search rules, refl, refl, stored_from _ _ _)
 
 pub loop-w-preserved : goal.loop-w-preserved
-loop-w-preserved c = (search rules, search rules, search rules, stored_next (λ x. get_or c.args.t3.words x 0) (omega arith) refl c.loop-w.invariant.3)
+loop-w-preserved c = (search rules, search rules, search rules, stored_next (λ x. get_or c.args.s.words x 0) (omega arith) refl c.loop-w.invariant.3)
 
 pub returns : goal.returns
 returns c = put _ _ _ _ c.loop-w.invariant.3 (omega arith)
