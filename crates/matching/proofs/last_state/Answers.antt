@@ -1,4 +1,3 @@
-use Prim.Native.Nat.{◌-◌}
 use borrow.Author.Rules.{rules}
 use Rattle.scope.specs.Limits.{cells_at}
 use Rattle.buffers.proofs.OneMore.{part_all}
