@@ -10,7 +10,7 @@ loop-q-init c = rw c.head-q.ensures.0 (sweep_begins c.requires.sinking)
 
 pub least-ahead-requires : goal.least-ahead-requires
 least-ahead-requires c = let v = c.loop-q.invariant in
-record { sound_table = c.requires.sound_table; held_classes = c.requires.held_classes; q_bound = omega (arith, v.few) }
+    record { sound_table = c.requires.sound_table; held_classes = c.requires.held_classes; q_bound = omega (arith, v.few) }
 
 pub overflow_cast-ways : goal.overflow_cast-ways
 overflow_cast-ways c = let l = c.loop-q in omega (arith, l.invariant.sinking.most (l.q - 1) (omega (arith, l.invariant.few)))

@@ -1,5 +1,4 @@
 -- The states from q on are passed: `SweptTo`.
-use Prim.Native.Nat.{◌-◌}
 use Rattle.way_writing.proofs.Sinking.{SweptTo}
 use Rattle.way_writing.proofs.sweep.Given as goal
 
