@@ -1,4 +1,4 @@
-use Prim.Native.Nat.{ℕ, ◌-◌}
+use Prim.Native.Nat.{ℕ}
 use mathlib.Core.Path.{◌≡◌}
 use native.Mathlib.Omega.{arith}
 use borrow.Author.Rules.{rules}
@@ -16,7 +16,13 @@ loop-i-preserved c = let v = c.loop-i.invariant in
     let literal : ℕ → Type 0 = λ i. Literal (get_or c.args.form.now i 0) in (
       omega (arith, v.0),
       omega arith,
-      elim c.if-x-eq-CLOSE.branch [ then-x-eq-CLOSE w ↦ rw w.1 (each_not literal v.0 v.2 (λ l. omega (arith, l, w.if-x-eq-CLOSE.true))) | else-x-eq-CLOSE w ↦ rw w.1 (elim c.if-x-eq-BACK.branch [ then-x-eq-BACK u ↦ rw u.1 (each_not literal v.0 v.2 (λ l. omega (arith, l, u.if-x-eq-BACK.true))) | else-x-eq-BACK u ↦ rw u.1 (each_more literal v.0 v.2 (u.if-x-eq-BACK.false, w.if-x-eq-CLOSE.false)) ]) ],
+      elim c.if-x-eq-CLOSE.branch [
+        | then-x-eq-CLOSE w ↦ rw w.none-is (each_not literal v.0 v.2 (λ l. omega (arith, l, w.if-x-eq-CLOSE.true)))
+        | else-x-eq-CLOSE w ↦ rw w.none-is (elim c.if-x-eq-BACK.branch [
+          | then-x-eq-BACK u ↦ rw u.none-is (each_not literal v.0 v.2 (λ l. omega (arith, l, u.if-x-eq-BACK.true)))
+          | else-x-eq-BACK u ↦ rw u.none-is (each_more literal v.0 v.2 (u.if-x-eq-BACK.false, w.if-x-eq-CLOSE.false))
+        ])
+      ],
     )
 
 pub returns : goal.returns
