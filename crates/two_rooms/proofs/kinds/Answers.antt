@@ -1,12 +1,11 @@
-use mathlib.Core.Logic.{⊎_elim}
-use Prim.Native.Nat.{◌+◌, ◌≤◌, ◌-◌}
+use Prim.Native.Nat.{◌+◌, ◌≤◌}
 use native.Mathlib.Omega.{arith}
 use borrow.Author.Rules.{rules}
-use borrow.Author.Tests.{ltb-false}
 use Rattle.scope.specs.Limits.{byte_values}
 use Rattle.two_rooms.specs.Kinds.{stretch}
 use Rattle.two_rooms.proofs.ByKind.{passed_first, passed_same, passed_level, passed_old, passed_new, passed_full, passed_all, passed_byte, passed_few}
 use Rattle.two_rooms.proofs.kinds.Goals as goal
+use Rattle.two_rooms.proofs.kinds.Goals.{then-p-last+then-find-count, then-p-last+else-find-count, else-p-last}
 
 pub loop-x-init : goal.loop-x-init
 loop-x-init c = (search rules, search rules, passed_first _ _ _ c.pair-last.ensures)
@@ -25,9 +24,10 @@ loop-x-preserved-then-is_level-2 c = let h : c.loop-x.x + stretch ≤ byte_value
     (search rules, h, passed_level _ _ _ _ h c.loop-x.invariant.2 (c.is_level.ensures.yes c.if-is_level.true) (c.is_level-then-is_level.ensures.yes c.if-is_level-2.true))
 
 pub find-requires : goal.find-requires
-find-requires c = let g = c.loop-x.invariant.2 in
-let l = c.loop-x-test.true in
-record { sound_table = c.requires.sound_table; count_le_byte_values = (omega (arith, passed_few g, l), λ i h z. omega (arith, passed_byte g i h, l)) }
+find-requires c =
+    let g = c.loop-x.invariant.2 in
+    let l = c.loop-x-test.true in
+    record { sound_table = c.requires.sound_table; count_le_byte_values = (omega (arith, passed_few g, l), λ i h z. omega (arith, passed_byte g i h, l)) }
 
 pub bounds-least-count : goal.bounds-least-count
 bounds-least-count c = let g = c.loop-x.invariant.2 in omega (arith, passed_few g, g.least_long, c.loop-x-test.true)
@@ -41,16 +41,15 @@ loop-x-preserved c = let l = c.loop-x-test.true in
     let e = c.pair-p.ensures in (
       search rules,
       search rules,
-      ⊎_elim
-          (λ w. rw (w.4, w.5, w.6) (passed_new _ _ _ _ _ _ _ l g e (rw w.3.taken at w.2.ensures)))
-          (⊎_elim
-          (λ w. rw (w.4, w.5, w.6) (passed_old _ _ _ _ _ _ _ l g e w.2.result w.2.ensures w.3.left))
-          (λ w. rw (w.1, w.2, w.3) (passed_same _ _ _ _ _ _ _ l g e w.0.left)))
-          c.if-p-last.branch,
+      elim c.if-p-last.branch [
+        | then-p-last+then-find-count w ↦ rw (w.least-is, w.count-is, w.last-is) (passed_new _ _ _ _ _ _ _ l g e (rw w.if-find-count.true at w.find.ensures))
+        | then-p-last+else-find-count w ↦ rw (w.least-is, w.count-is, w.last-is) (passed_old _ _ _ _ _ _ _ l g e w.find.result w.find.ensures w.if-find-count.false)
+        | else-p-last w ↦ rw (w.least-is, w.count-is, w.last-is) (passed_same _ _ _ _ _ _ _ l g e w.if-p-last.false)
+      ],
     )
 
 pub returns-else-count-most : goal.returns-else-count-most
-returns-else-count-most c = passed_full _ _ _ c.requires.sound_table.1 c.requires.most _ _ (ltb-false _ _ c.if-count-most.false-raw) c.loop-x.invariant.1 c.loop-x.invariant.2
+returns-else-count-most c = passed_full _ _ _ c.requires.sound_table.1 c.requires.most _ _ c.if-count-most.false c.loop-x.invariant.1 c.loop-x.invariant.2
 
 pub returns-after-loop-x : goal.returns-after-loop-x
 returns-after-loop-x c = passed_all c.loop-x.invariant.2 c.requires.sound_table.1 (omega arith)
