@@ -1,4 +1,4 @@
-use Prim.Native.Nat.{ℕ, ◌-◌, ◌%◌, ◌<◌}
+use Prim.Native.Nat.{ℕ, ◌%◌, ◌<◌}
 use mathlib.Core.Path.{◌≡◌}
 use native.Mathlib.Omega.{arith}
 use borrow.Author.Rules.{rules}
@@ -35,7 +35,7 @@ loop-i-preserved c = let s = c.args in
       search rules,
       cell_rest v.1 t,
       cell_rest v.2 t,
-      elim c.if-part-x.branch [ then-part-x w ↦ rw w.1 (each_not led (omega arith) v.3 (λ e. w.if-part-x.true (rw (← y, ← z) at e))) | else-part-x w ↦ rw w.1 (each_more led (omega arith) v.3 (rw (← y, ← z) w.if-part-x.false)) ],
+      elim c.if-part-x.branch [ then-part-x w ↦ rw w.same-is (each_not led (omega arith) v.3 (λ e. w.if-part-x.true (rw (← y, ← z) at e))) | else-part-x w ↦ rw w.same-is (each_more led (omega arith) v.3 (rw (← y, ← z) w.if-part-x.false)) ],
     )
 
 pub returns : goal.returns

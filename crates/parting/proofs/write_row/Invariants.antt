@@ -1,5 +1,5 @@
 -- The row has the cells from i on.
-use Prim.Native.Nat.{◌-◌, ◌≤◌}
+use Prim.Native.Nat.{◌≤◌}
 use Rattle.two_rooms.specs.Side.{both}
 use Rattle.parting.specs.CellRows.{row_width, RowFrom}
 use Rattle.parting.proofs.write_row.Given as goal
