@@ -1,6 +1,5 @@
 use mathlib.Core.Path.{◌≡◌, sym, ◌∙◌}
-use mathlib.Core.Logic.{⊎_elim}
-use Prim.Native.Nat.{◌<◌, ◌-◌}
+use Prim.Native.Nat.{◌<◌}
 use native.Mathlib.Omega.{arith}
 use borrow.Author.Rules.{rules}
 use Rattle.scope.proofs.Counting.Lists.{zeros}
@@ -16,7 +15,7 @@ loop-q-init c = (search rules, rw c.requires.part_value (begun_none _ _), rw c.r
 pub overflow_cast-part : goal.overflow_cast-part
 overflow_cast-part c = let d = c.requires.first_states in
     let h : c.loop-q.q < both_limit = omega (arith, c.loop-q-test.true, d.few, d.left.few_states, d.right.few_states) in
-    elim c.if-other-eq0.branch [ then-other-eq0 w ↦ omega (arith, w.1) | else-other-eq0 w ↦ omega (arith, w.1, c.loop-q.invariant.1.low) ]
+    elim c.if-other-eq0.branch [ then-other-eq0 w ↦ omega (arith, w.other-is) | else-other-eq0 w ↦ omega (arith, w.other-is, c.loop-q.invariant.1.low) ]
 
 pub loop-q-preserved : goal.loop-q-preserved
 loop-q-preserved c = let d = c.requires.first_states in
@@ -25,15 +24,22 @@ loop-q-preserved c = let d = c.requires.first_states in
     let v = l.invariant.1 in
     let h : l.q < both_limit = omega (arith, c.loop-q-test.true, d.few, d.left.few_states, d.right.few_states) in (
       search rules,
-      elim c.if-mark-m.branch [ then-mark-m w ↦ rw (w.4, w.6) (⊎_elim
-          (λ u. rw u.1 (begun_first _ _ _ _ _ v h (λ e. w.if-mark-m.true (k ∙ e ∙ sym m)) u.0.taken))
-          (λ u. rw u.1 (begun_other _ _ _ _ _ v h (λ e. w.if-mark-m.true (k ∙ e ∙ sym m)) d.left d.right (omega (arith, c.loop-q-test.true, d.few)) u.0.left))
-          w.1.came) | else-mark-m w ↦ rw (w.1, w.3) (begun_same _ _ _ _ _ v (sym k ∙ w.if-mark-m.false ∙ m)) ],
-      elim c.if-mark-m.branch [ then-mark-m w ↦ rw (w.4, w.5) (stayed_moved l.invariant.2 w.1.other) | else-mark-m w ↦ rw (w.1, w.2) (stayed_still l.invariant.2 (v.zero l.q (omega arith) ∙ sym (zeros both_limit l.q))) ],
+      elim c.if-mark-m.branch [
+        | then-mark-m w ↦ rw (w.part-is, w.other-is) (elim w.if-other-eq0.branch [
+          | then-other-eq0 u ↦ rw u.other-is (begun_first _ _ _ _ _ v h (λ e. w.if-mark-m.true (k ∙ e ∙ sym m)) u.if-other-eq0.true)
+          | else-other-eq0 u ↦ rw u.other-is (begun_other _ _ _ _ _ v h (λ e. w.if-mark-m.true (k ∙ e ∙ sym m)) d.left d.right (omega (arith, c.loop-q-test.true, d.few)) u.if-other-eq0.false)
+        ])
+        | else-mark-m w ↦ rw (w.part-is, w.other-is) (begun_same _ _ _ _ _ v (sym k ∙ w.if-mark-m.false ∙ m))
+      ],
+      elim c.if-mark-m.branch [
+        | then-mark-m w ↦ rw (w.part-is, w.touched-is) (stayed_moved l.invariant.2 w.if-other-eq0.other)
+        | else-mark-m w ↦ rw (w.part-is, w.touched-is) (stayed_still l.invariant.2 (v.zero l.q (omega arith) ∙ sym (zeros both_limit l.q)))
+      ],
     )
 
 pub returns : goal.returns
-returns c = let a = c.args in
-let i = c.loop-q.invariant in
-let e : c.loop-q.q ≡ a.n = omega arith in
-record { part_len = (i.1.long, begun_all _ _ _ _ _ c.requires.first_states (rw e at i.1)); steady = steady_first {M = side a.a.now a.b.now a.n} c.requires.first_states.closed c.requires.sources (zeros both_limit) (rw e at i.2) }
+returns c =
+    let a = c.args in
+    let i = c.loop-q.invariant in
+    let e : c.loop-q.q ≡ a.n = omega arith in
+    record { part_len = (i.1.long, begun_all _ _ _ _ _ c.requires.first_states (rw e at i.1)); steady = steady_first {M = side a.a.now a.b.now a.n} c.requires.first_states.closed c.requires.sources (zeros both_limit) (rw e at i.2) }

@@ -1,4 +1,3 @@
-use Prim.Native.Nat.{◌-◌}
 use mathlib.Core.Path.{◌≡◌}
 use native.Mathlib.Omega.{arith}
 use borrow.Author.Rules.{rules}
@@ -9,11 +8,12 @@ use Rattle.signs.proofs.note.Goals.{else-y-last, then-y-last}
 
 pub loop-c-preserved : goal.loop-c-preserved
 loop-c-preserved c = let v = c.loop-c.invariant in
-    elim c.if-y-last.branch [ then-y-last w ↦ rw (w.2, w.3) (noting_set v (search rules) (search rules) (search rules)) | else-y-last w ↦ rw (w.1, w.2) (noting_again v (search rules) (search rules) (search rules) w.if-y-last.false) ]
+    elim c.if-y-last.branch [ then-y-last w ↦ rw (w.from-is, w.last-is) (noting_set v (search rules) (search rules) (search rules)) | else-y-last w ↦ rw (w.from-is, w.last-is) (noting_again v (search rules) (search rules) (search rules) w.if-y-last.false) ]
 
 pub returns : goal.returns
-returns c = let e : c.loop-c.c ≡ classes_of c.args.room.now = omega arith in
-record { from_len_2 = c.loop-c.invariant.long; cells_noted = rw e at c.loop-c.invariant.noted }
+returns c =
+    let e : c.loop-c.c ≡ classes_of c.args.room.now = omega arith in
+    record { from_len_2 = c.loop-c.invariant.long; cells_noted = rw e at c.loop-c.invariant.noted }
 
 pub loop-c-init : goal.loop-c-init
 loop-c-init c = search (rules, noting_none)

@@ -1,4 +1,3 @@
-use Prim.Native.Nat.{◌-◌}
 use mathlib.Core.Path.{◌≡◌}
 use native.Mathlib.Omega.{arith}
 use borrow.Author.Rules.{rules}
@@ -11,16 +10,19 @@ pub loop-q-init : goal.loop-q-init
 loop-q-init c = (search rules, (record { long = omega arith; row = λ q h. absurd (omega arith) }, all_kept _ _), (search rules, λ q x h. absurd (omega arith)))
 
 pub write_row-requires : goal.write_row-requires
-write_row-requires c = let v = c.loop-q.invariant.1 in
-record { sound_table = (c.requires.first_states.0.left, c.requires.first_states.0.right); q_bound = (omega (arith, c.loop-q-test.true, c.requires.first_states.0.few), c.requires.first_states.1); both_limit_in_bounds = (omega (arith, v.1.size, c.requires.both_limit_in_bounds.0), v.0) }
+write_row-requires c =
+    let v = c.loop-q.invariant.1 in
+    record { sound_table = (c.requires.first_states.0.left, c.requires.first_states.0.right); q_bound = (omega (arith, c.loop-q-test.true, c.requires.first_states.0.few), c.requires.first_states.1); both_limit_in_bounds = (omega (arith, v.1.size, c.requires.both_limit_in_bounds.0), v.0) }
 
 pub note-requires : goal.note-requires
-note-requires c = let d = c.requires.first_states.0 in
-record { sound_table = (d.left, search rules, omega (arith, d.left.few_states)); from_len = search rules }
+note-requires c =
+    let d = c.requires.first_states.0 in
+    record { sound_table = (d.left, search rules, omega (arith, d.left.few_states)); from_len = search rules }
 
 pub note-requires-else-q-s : goal.note-requires-else-q-s
-note-requires-else-q-s c = let d = c.requires.first_states.0 in
-record { sound_table = (d.right, omega (arith, c.loop-q-test.true, d.few), omega (arith, d.left.few_states, d.right.few_states)); from_len = search rules }
+note-requires-else-q-s c =
+    let d = c.requires.first_states.0 in
+    record { sound_table = (d.right, omega (arith, c.loop-q-test.true, d.few), omega (arith, d.left.few_states, d.right.few_states)); from_len = search rules }
 
 pub loop-q-preserved : goal.loop-q-preserved
 loop-q-preserved c = let d = c.requires.first_states.0 in
@@ -28,10 +30,14 @@ loop-q-preserved c = let d = c.requires.first_states.0 in
     let s = c.head-s.ensures.0 in (
       search rules,
       (c.write_row.ensures.0, tail_then v.1.1 c.write_row.ensures.1),
-      elim c.if-q-s.branch [ then-q-s w ↦ rw w.4 (w.3.ensures.0, sources_left d w.1.ensures v.2.1 (rw s at w.if-q-s.true) w.3.ensures.1) | else-q-s w ↦ rw w.4 (w.3.ensures.0, sources_right d w.1.ensures v.2.1 (rw s at w.if-q-s.false) (rw s at w.3.ensures.1)) ],
+      elim c.if-q-s.branch [
+        | then-q-s w ↦ rw w.from-is (w.note.ensures.from_len_2, sources_left d w.sign.ensures v.2.1 (rw s at w.if-q-s.true) w.note.ensures.cells_noted)
+        | else-q-s w ↦ rw w.from-is (w.note-else-q-s.ensures.from_len_2, sources_right d w.sign-else-q-s.ensures v.2.1 (rw s at w.if-q-s.false) (rw s at w.note-else-q-s.ensures.cells_noted))
+      ],
     )
 
 pub returns : goal.returns
-returns c = let v = c.loop-q.invariant in
-let e : c.loop-q.q ≡ c.args.n = omega arith in
-record { cell_rows = (rw e at v.1.0, v.1.1); sources = rw e at v.2.1 }
+returns c =
+    let v = c.loop-q.invariant in
+    let e : c.loop-q.q ≡ c.args.n = omega arith in
+    record { cell_rows = (rw e at v.1.0, v.1.1); sources = rw e at v.2.1 }
