@@ -1,4 +1,3 @@
-use Prim.Native.Nat.{◌-◌}
 use mathlib.Core.Path.{◌≡◌, refl}
 use native.Mathlib.Omega.{arith}
 use borrow.Author.Rules.{rules}
@@ -32,6 +31,7 @@ loop-q-preserved c = let d = c.requires in
     (search rules, stored_more (omega arith) (omega (arith, d.0, d.1, l)) refl c.loop-q.invariant.1, stored_more (omega arith) (omega (arith, d.0, d.2, l)) refl c.loop-q.invariant.2)
 
 pub returns : goal.returns
-returns c = let e : c.loop-q.q ≡ c.args.n = omega arith in
-let v = rw e at c.loop-q.invariant in
-record { written = stored_written v.1; written_2 = stored_written v.2 }
+returns c =
+    let e : c.loop-q.q ≡ c.args.n = omega arith in
+    let v = rw e at c.loop-q.invariant in
+    record { written = stored_written v.1; written_2 = stored_written v.2 }

@@ -15,7 +15,7 @@ pub refine-rounds-requires : goal.refine-rounds-requires
 refine-rounds-requires c = record { first_states = rw c.head-machine.ensures.0 (side_left _ _ c.requires.sound_table c.requires.sound_table); kinds = c.kinds-bytes.ensures; part_value = (c.requires.column_value.1, refl, refl); both_limit_in_bounds = c.requires.column_value.2 }
 
 pub returns : goal.returns
-returns c = (
-  left_alone c.requires.sound_table c.kinds-bytes.ensures c.columns.ensures (rw c.head-machine.ensures.0 at c.refine-rounds.ensures.refined),
-  c.refine-rounds.ensures.tail_kept,
-)
+returns c = record {
+  refined_alone = left_alone c.requires.sound_table c.kinds-bytes.ensures c.columns.ensures (rw c.head-machine.ensures.0 at c.refine-rounds.ensures.refined);
+  tail_kept = c.refine-rounds.ensures.tail_kept;
+}
