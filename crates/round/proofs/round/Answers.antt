@@ -1,6 +1,5 @@
 use mathlib.Core.Path.{◌≡◌, ◌∙◌}
-use mathlib.Core.Logic.{⊎_elim}
-use Prim.Native.Nat.{◌+◌, ◌-◌, ◌≤◌, ◌<◌}
+use Prim.Native.Nat.{◌+◌, ◌≤◌, ◌<◌}
 use native.Mathlib.Omega.{arith}
 use lib.ListN.{get_or}
 use Rattle.two_rooms.specs.Side.{both_limit, both}
@@ -8,6 +7,7 @@ use Rattle.round.proofs.Passes.{passed_none, passed_stays, passed_joined, passed
 use Rattle.signs.proofs.Signs.{stayed_none, stayed_still, stayed_moved, seen_none, seen_past}
 use Rattle.round.proofs.Gaps.{Come, come_as, come_gap}
 use Rattle.round.proofs.round.Goals as goal
+use Rattle.round.proofs.round.Goals.{then-p-h+then-shift, then-p-h+else-shift, else-p-h}
 
 pub looked-q-requires : goal.looked-q-requires
 looked-q-requires c =
@@ -18,17 +18,19 @@ pub loop-q-init : goal.loop-q-init
 loop-q-init c =
     let few : c.args.n ≤ both_limit = let d = c.requires.first_states in omega (arith, d.few, d.left.few_states, d.right.few_states) in
     let a = c.args in
-    let ((l, h, g), (s, v)) = (c.looked-q.ensures.lower_bound, (c.looked-q.ensures.seen_2, c.looked-q.ensures.by_index)) in (
+    let e = c.looked-q.ensures in
+    let (l, h, k) = e.lower_bound in (
       h,
-      g,
-      s,
-      come_gap (few) c.requires.next_len.0 c.requires.named c.requires.steady c.requires.by_index l h v
+      k,
+      e.seen_2,
+      come_gap few c.requires.next_len.0 c.requires.named c.requires.steady c.requires.by_index l h e.by_index
           (record { passed = passed_none _ _ _ _ _ _ _ c.requires.link_len.0 c.requires.link_len.1; stayed = stayed_none a.part.now a.next.now a.from.now }),
     )
 
 pub walk-p-requires : goal.walk-p-requires
-walk-p-requires c = let l = c.loop-q in let h = c.loop-q-test.true in
-record { sound_table = (c.requires.first_states.left, c.requires.first_states.right); each_kind = c.requires.each_kind; cell_rows = record { long = omega (arith, h, c.requires.cell_rows.long); row = λ q k. c.requires.cell_rows.row q (omega (arith, h, k)) }; q_bound = (omega (arith, h, c.requires.first_states.few), c.requires.named l.q h, l.invariant.1 h); chain = l.invariant.3.passed.chain }
+walk-p-requires c =
+    let l = c.loop-q in let h = c.loop-q-test.true in
+    record { sound_table = (c.requires.first_states.left, c.requires.first_states.right); each_kind = c.requires.each_kind; cell_rows = record { long = omega (arith, h, c.requires.cell_rows.long); row = λ q k. c.requires.cell_rows.row q (omega (arith, h, k)) }; q_bound = (omega (arith, h, c.requires.first_states.few), c.requires.named l.q h, l.invariant.1 h); chain = l.invariant.3.passed.chain }
 
 pub shift-requires : goal.shift-requires
 shift-requires c =
@@ -40,75 +42,50 @@ pub looked-q-requires-in-loop-q : goal.looked-q-requires-in-loop-q
 looked-q-requires-in-loop-q c =
     let few : c.args.n ≤ both_limit = let d = c.requires.first_states in omega (arith, d.few, d.left.few_states, d.right.few_states) in
     let low : (c.loop-q.q < both_limit) × (get_or c.args.part.now c.loop-q.q 0 < c.loop-q.q) = (omega (arith, c.loop-q-test.true, few), c.loop-q.invariant.1 c.loop-q-test.true) in
-    record { at_le_n = (omega (arith, c.loop-q-test.true), few); named = c.requires.named; seen = seen_past c.loop-q.invariant.2 (low).1 }
+    record { at_le_n = (omega (arith, c.loop-q-test.true), few); named = c.requires.named; seen = seen_past c.loop-q.invariant.2 low.1 }
 
 pub loop-q-preserved : goal.loop-q-preserved
 loop-q-preserved c =
     let few : c.args.n ≤ both_limit = let d = c.requires.first_states in omega (arith, d.few, d.left.few_states, d.right.few_states) in
     let low : (c.loop-q.q < both_limit) × (get_or c.args.part.now c.loop-q.q 0 < c.loop-q.q) = (omega (arith, c.loop-q-test.true, few), c.loop-q.invariant.1 c.loop-q-test.true) in
-    let come : let a = c.args in let i = c.if-p-h in Come (both a.a.now a.b.now).next a.part.now a.next.now i.next i.link a.parent.now i.parent a.born.now i.born a.from.now a.r i.opened i.stirred (c.loop-q.q + 1) = let g = c.requires.next_len in
-    let l = c.loop-q in let v = l.invariant.3 in
+    let a = c.args in
+    let i = c.if-p-h in
+    let g = c.requires.next_len in
+    let q = c.loop-q.q in
+    let v = c.loop-q.invariant.3 in
     let p = v.passed in
     let t = c.loop-q-test.true in
-    let z = low in
-    let f = c.walk-p in let same = c.requires.by_index l.q t in
-    ⊎_elim
-    (λ w.
-    let n = w.6.ensures.0 in
-    let o = w.6.ensures.1.0 w.7.taken in
-    come_as (w.8 ∙ o.links) (w.9 ∙ rw o.own at n) (w.10 ∙ o.parents) (w.11 ∙ o.births) w.12 w.13
-    (record { passed = passed_opened _ _ _ _ _ _ _ _ _ _ _ _ z.0 g.0 p (rw o.own at f.ensures) z.1 (c.requires.named l.q t).like g.1 g.2; stayed = stayed_moved v.stayed l.q }))
-    (⊎_elim
-    (λ w.
-    let o = w.6.ensures.1.1 w.7.left in
-    come_as (w.8 ∙ o.links) (w.9 ∙ w.6.ensures.0) (w.10 ∙ o.parents) (w.11 ∙ o.births) w.12 w.13
-    (record { passed = passed_joined _ _ _ _ _ _ _ _ _ _ _ _ z.0 g.0 p f.result f.ensures o.other (omega (arith, z)); stayed = stayed_moved v.stayed f.result }))
-    (λ w. come_as w.1 w.2 w.3 w.4 w.5 w.6
-    (record { passed = passed_stays _ _ _ _ _ _ _ _ _ _ _ _ z.0 g.0 p same (rw w.0.left at f.ensures); stayed = stayed_still v.stayed (p.named.kept l.q (omega arith) ∙ same) })))
-    c.if-p-h.branch in
-    let ((l, h, g), (s, v)) = (c.looked-q-in-loop-q.ensures.lower_bound, (c.looked-q-in-loop-q.ensures.seen_2, c.looked-q-in-loop-q.ensures.by_index)) in
-    (h, g, s, come_gap (few) c.requires.next_len.0 c.requires.named c.requires.steady c.requires.by_index l h v (come))
+    let f = c.walk-p in
+    let same = c.requires.by_index q t in
+    let come : Come (both a.a.now a.b.now).next a.part.now a.next.now i.next i.link a.parent.now i.parent a.born.now i.born a.from.now a.r i.opened i.stirred (q + 1) =
+    elim i.branch [
+      | then-p-h+then-shift w ↦
+          let o = w.shift.ensures.opening w.if-shift.true in
+          come_as (w.link-is ∙ o.links) (w.next-is ∙ rw o.own at w.shift.ensures.next_after) (w.parent-is ∙ o.parents) (w.born-is ∙ o.births) w.opened-is w.stirred-is
+          (record {
+            passed = passed_opened _ _ _ _ _ _ _ _ _ _ _ _ low.0 g.0 p (rw o.own at f.ensures) low.1 (c.requires.named q t).like g.1 g.2;
+            stayed = stayed_moved v.stayed q;
+          })
+      | then-p-h+else-shift w ↦
+          let o = w.shift.ensures.joining w.if-shift.false in
+          come_as (w.link-is ∙ o.links) (w.next-is ∙ w.shift.ensures.next_after) (w.parent-is ∙ o.parents) (w.born-is ∙ o.births) w.opened-is w.stirred-is
+          (record {
+            passed = passed_joined _ _ _ _ _ _ _ _ _ _ _ _ low.0 g.0 p f.result f.ensures o.other (omega (arith, low));
+            stayed = stayed_moved v.stayed f.result;
+          })
+      | else-p-h w ↦
+          come_as w.link-is w.next-is w.parent-is w.born-is w.opened-is w.stirred-is
+          (record {
+            passed = passed_stays _ _ _ _ _ _ _ _ _ _ _ _ low.0 g.0 p same (rw w.if-p-h.false at f.ensures);
+            stayed = stayed_still v.stayed (p.named.kept q (omega arith) ∙ same);
+          })
+    ] in
+    let (l, h, k) = c.looked-q-in-loop-q.ensures.lower_bound in
+    let e = c.looked-q-in-loop-q.ensures in
+    (h, k, e.seen_2, come_gap few g.0 c.requires.named c.requires.steady c.requires.by_index l h e.by_index come)
 
 pub returns : goal.returns
-returns c = let e : c.loop-q.q ≡ c.args.n = omega (arith, c.loop-q-test.false, c.loop-q.invariant.0) in
-let v = rw e at c.loop-q.invariant.3 in
-record { renamed = v.passed.named; births = v.passed.births; stayed = v.stayed; decides = v.passed.some; link_len_2 = (v.passed.link_long, v.passed.zero) }
-
-pub offset_bounds-part-q : goal.offset_bounds-part-q
-offset_bounds-part-q c =
-    let few : c.args.n ≤ both_limit = let d = c.requires.first_states in omega (arith, d.few, d.left.few_states, d.right.few_states) in
-    let low : (c.loop-q.q < both_limit) × (get_or c.args.part.now c.loop-q.q 0 < c.loop-q.q) = (omega (arith, c.loop-q-test.true, few), c.loop-q.invariant.1 c.loop-q-test.true) in
-    omega (arith, low)
-
-pub bounds-part-q : goal.bounds-part-q
-bounds-part-q c =
-    let few : c.args.n ≤ both_limit = let d = c.requires.first_states in omega (arith, d.few, d.left.few_states, d.right.few_states) in
-    let low : (c.loop-q.q < both_limit) × (get_or c.args.part.now c.loop-q.q 0 < c.loop-q.q) = (omega (arith, c.loop-q-test.true, few), c.loop-q.invariant.1 c.loop-q-test.true) in
-    omega (arith, low)
-
-pub overflow_cast-h : goal.overflow_cast-h
-overflow_cast-h c =
-    let few : c.args.n ≤ both_limit = let d = c.requires.first_states in omega (arith, d.few, d.left.few_states, d.right.few_states) in
-    let low : (c.loop-q.q < both_limit) × (get_or c.args.part.now c.loop-q.q 0 < c.loop-q.q) = (omega (arith, c.loop-q-test.true, few), c.loop-q.invariant.1 c.loop-q-test.true) in
-    omega (arith, low)
-
-pub offset_bounds-from-q : goal.offset_bounds-from-q
-offset_bounds-from-q c =
-    let few : c.args.n ≤ both_limit = let d = c.requires.first_states in omega (arith, d.few, d.left.few_states, d.right.few_states) in
-    let low : (c.loop-q.q < both_limit) × (get_or c.args.part.now c.loop-q.q 0 < c.loop-q.q) = (omega (arith, c.loop-q-test.true, few), c.loop-q.invariant.1 c.loop-q-test.true) in
-    omega (arith, low)
-
-pub bounds-from-q : goal.bounds-from-q
-bounds-from-q c =
-    let few : c.args.n ≤ both_limit = let d = c.requires.first_states in omega (arith, d.few, d.left.few_states, d.right.few_states) in
-    let low : (c.loop-q.q < both_limit) × (get_or c.args.part.now c.loop-q.q 0 < c.loop-q.q) = (omega (arith, c.loop-q-test.true, few), c.loop-q.invariant.1 c.loop-q-test.true) in
-    omega (arith, low)
-
-pub overflow_add-q : goal.overflow_add-q
-overflow_add-q c =
-    let few : c.args.n ≤ both_limit = let d = c.requires.first_states in omega (arith, d.few, d.left.few_states, d.right.few_states) in
-    let low : (c.loop-q.q < both_limit) × (get_or c.args.part.now c.loop-q.q 0 < c.loop-q.q) = (omega (arith, c.loop-q-test.true, few), c.loop-q.invariant.1 c.loop-q-test.true) in
-    omega (arith, low)
-
-pub loop-q-smaller : goal.loop-q-smaller
-loop-q-smaller c = omega (arith, c.looked-q-in-loop-q.ensures.lower_bound.0, c.loop-q-test.true)
+returns c =
+    let e : c.loop-q.q ≡ c.args.n = omega (arith, c.loop-q-test.false, c.loop-q.invariant.0) in
+    let v = rw e at c.loop-q.invariant.3 in
+    record { renamed = v.passed.named; births = v.passed.births; stayed = v.stayed; decides = v.passed.some; link_len_2 = (v.passed.link_long, v.passed.zero) }
