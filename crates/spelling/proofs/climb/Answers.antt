@@ -2,12 +2,6 @@ use native.Mathlib.Omega.{arith}
 use Rattle.spelling.proofs.Climbing.{climb_first, climb_more, climb_done, climb_low, climb_up}
 use Rattle.spelling.proofs.climb.Goals as goal
 
-pub offset_bounds-part-q : goal.offset_bounds-part-q
-offset_bounds-part-q c = omega (arith, c.requires.is_state, c.requires.few)
-
-pub bounds-part-q : goal.bounds-part-q
-bounds-part-q c = omega (arith, c.requires.is_state, c.requires.few)
-
 pub overflow_cast-x : goal.overflow_cast-x
 overflow_cast-x c = omega (arith, climb_low _ _ _ _ _ _ (climb_first _ _ _ _ _) c.requires)
 

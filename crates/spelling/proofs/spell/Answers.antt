@@ -1,4 +1,3 @@
-use Prim.Native.Nat.{◌-◌}
 use native.Mathlib.Omega.{arith}
 use borrow.Author.Count.{below_none}
 use Rattle.spelling.proofs.Spelling.{climb_ready, untried, tried_more, writing_none, writing_more, writing_done}
@@ -11,7 +10,8 @@ pub loop-i-init : goal.loop-i-init
 loop-i-init c = below_none _
 
 pub bounds-least-i : goal.bounds-least-i
-bounds-least-i c = let k = c.requires.by_index.1.are in
+bounds-least-i c =
+    let k = c.requires.by_index.1.are in
     omega (arith, untried c.requires.spells k c.walk.invariant c.if-at-long.false c.loop-i.i c.loop-i.invariant, k.few)
 
 pub step-y-requires : goal.step-y-requires
@@ -33,10 +33,14 @@ pub climb-requires-in-loop-i : goal.climb-requires-in-loop-i
 climb-requires-in-loop-i c = climb_ready c.requires.spells _ _ c.step-z.ensures.1 (omega arith)
 
 pub overflow_add-i : goal.overflow_add-i
-overflow_add-i c = omega (arith, element-copy-out-x c)
+overflow_add-i c =
+    let k = c.requires.by_index.1.are in
+    omega (arith, untried c.requires.spells k c.walk.invariant c.if-at-long.false c.loop-i.i c.loop-i.invariant, k.few)
 
 pub loop-i-smaller : goal.loop-i-smaller
-loop-i-smaller c = omega (arith, element-copy-out-x c)
+loop-i-smaller c =
+    let k = c.requires.by_index.1.are in
+    omega (arith, untried c.requires.spells k c.walk.invariant c.if-at-long.false c.loop-i.i c.loop-i.invariant, k.few)
 
 pub loop-i-preserved : goal.loop-i-preserved
 loop-i-preserved c = tried_more c.requires.spells c.requires.by_index.1.are c.walk.invariant c.if-at-long.false c.loop-i.i c.loop-i.invariant
