@@ -1,4 +1,3 @@
-use Prim.Native.Nat.{◌-◌}
 use mathlib.Core.Path.{refl, ap₂, ◌∙◌}
 use mathlib.Core.Bool.{◌||◌}
 use native.Mathlib.Omega.{arith}
@@ -11,8 +10,14 @@ pub loop-w-init : goal.loop-w-init
 loop-w-init c = (search rules, refl, refl, becoming_none)
 
 pub loop-w-preserved : goal.loop-w-preserved
-loop-w-preserved c = let l = c.loop-w in let b = l.invariant.3 in
-    (search rules, l.invariant.1, search rules, becoming_more _ _ l.invariant.1 (omega arith) b (λ j h. has_or _ _ j ∙ ap₂ ◌||◌ (becoming_next _ l.invariant.1 (omega arith) b j h) (c.span.ensures j h)))
+loop-w-preserved c =
+    let l = c.loop-w in
+    let b = l.invariant.3 in (
+      search rules,
+      l.invariant.1,
+      search rules,
+      becoming_more _ _ l.invariant.1 (omega arith) b (λ j h. has_or _ _ j ∙ ap₂ ◌||◌ (becoming_next _ l.invariant.1 (omega arith) b j h) (c.span.ensures j h)),
+    )
 
 pub returns : goal.returns
 returns c = became (omega arith) c.loop-w.invariant.3

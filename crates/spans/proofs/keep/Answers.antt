@@ -1,4 +1,3 @@
-use Prim.Native.Nat.{◌-◌}
 use mathlib.Core.Path.{refl, sym, ap₂, ◌∙◌}
 use mathlib.Core.Bool.{Bool, ◌&&◌, not, and-true}
 use native.Mathlib.Omega.{arith}
@@ -13,12 +12,14 @@ pub loop-w-init : goal.loop-w-init
 loop-w-init c = (search rules, refl, refl, becoming_none)
 
 pub loop-w-preserved : goal.loop-w-preserved
-loop-w-preserved c = let b = c.loop-w.invariant.3 in
+loop-w-preserved c =
+    let b = c.loop-w.invariant.3 in
     let e = c.loop-w.invariant.1 in (
       search rules,
       e,
       search rules,
-      becoming_more _ _ e (omega arith) b (λ j h. c.without.ensures j ∙ ap₂ (λ (x y : Bool). x && not y) (becoming_next _ e (omega arith) b j h) (c.span.ensures j h) ∙ rw c.if-wanted.false refl),
+      becoming_more _ _ e (omega arith) b
+          (λ j h. c.without.ensures j ∙ ap₂ (λ (x y : Bool). x && not y) (becoming_next _ e (omega arith) b j h) (c.span.ensures j h) ∙ rw c.if-wanted.false refl),
     )
 
 pub returns : goal.returns

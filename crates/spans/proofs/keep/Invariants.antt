@@ -11,7 +11,9 @@ use Rattle.spans.proofs.Spans.{Becoming}
 use Rattle.spans.proofs.keep.Given as goal
 
 abbrev pub invariant-loop-w : goal.invariant-loop-w
-invariant-loop-w l = (l.w ≤ set_words) × (l.at ≡ l.i * set_words) × (length l.words ≡ length l.initial.words) × Becoming l.initial.words l.words l.i l.w (λ q. has (set_at l.initial.words l.i) q && (l.wanted || not (between (l.from + 1) l.to q)))
+invariant-loop-w l =
+    (l.w ≤ set_words) × (l.at ≡ l.i * set_words) × (length l.words ≡ length l.initial.words)
+    × Becoming l.initial.words l.words l.i l.w (λ q. has (set_at l.initial.words l.i) q && (l.wanted || not (between (l.from + 1) l.to q)))
 
 abbrev pub decreases-loop-w : goal.decreases-loop-w
 decreases-loop-w l = set_words - l.w
