@@ -14,7 +14,8 @@ pub class_byte-high-requires : goal.class_byte-high-requires
 class_byte-high-requires c = item_high c.class_byte-low.ensures c.byte_at.ensures.0 c.requires.some c.if-byte_at-eq-DASH.true
 
 pub returns-then-byte_at-eq-DASH : goal.returns-then-byte_at-eq-DASH
-returns-then-byte_at-eq-DASH c = item_range c.class_byte-low.ensures c.byte_at.ensures.0 c.requires.some c.class_byte-high.ensures c.if-byte_at-eq-DASH.true c.insert.ensures
+returns-then-byte_at-eq-DASH c =
+    item_range c.class_byte-low.ensures c.byte_at.ensures.0 c.requires.some c.class_byte-high.ensures c.if-byte_at-eq-DASH.true c.insert.ensures
 
 pub returns-else-byte_at-eq-DASH : goal.returns-else-byte_at-eq-DASH
 returns-else-byte_at-eq-DASH c = item_lone c.class_byte-low.ensures c.byte_at.ensures.0 c.requires.some c.if-byte_at-eq-DASH.false c.insert-else-byte_at-eq-DASH.ensures

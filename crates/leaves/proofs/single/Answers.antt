@@ -1,14 +1,13 @@
 -- The first byte tells the dot, a class, an escape and a literal apart.
 use native.Mathlib.Omega.{arith}
 use Rattle.leaves.proofs.Singles.{single_dot, single_items, single_class, single_escape, single_byte, single_literal, literal_byte}
-use borrow.Author.Rules.{rules}
 use Rattle.leaves.proofs.single.Goals as goal
 
 pub returns-then-b-eq-DOT : goal.returns-then-b-eq-DOT
 returns-then-b-eq-DOT c = single_dot c.requires.some c.byte_at-b.ensures.0 c.if-b-eq-DOT.true c.insert_dot.ensures
 
-pub items-requires : goal.items-requires
-items-requires c = record { some = single_items c.requires.some c.byte_at-b.ensures.0 c.if-b-eq-CLASS_OPEN.true; k_lt_position_limit = search rules }
+pub items-requires-clause-some : goal.items-requires-clause-some
+items-requires-clause-some c = single_items c.requires.some c.byte_at-b.ensures.0 c.if-b-eq-CLASS_OPEN.true
 
 pub returns-then-b-eq-CLASS_OPEN : goal.returns-then-b-eq-CLASS_OPEN
 returns-then-b-eq-CLASS_OPEN c = single_class c.requires.some c.byte_at-b.ensures.0 c.if-b-eq-CLASS_OPEN.true c.items.ensures

@@ -6,7 +6,9 @@ use Rattle.leaves.proofs.ByteByByte.{class_escape, class_bare}
 use Rattle.leaves.proofs.text.class_byte.Goals as goal
 
 pub escape-requires : goal.escape-requires
-escape-requires c = let p = c.requires in record { short = p.short; inside = p.inside; end = _; what = _; reads = class_escape c.requires.reads (sym c.byte_at-b.ensures.0 ∙ c.if-b-eq-BACKSLASH.true) }
+escape-requires c =
+    let p = c.requires in
+    record { short = p.short; inside = p.inside; end = _; what = _; reads = class_escape c.requires.reads (sym c.byte_at-b.ensures.0 ∙ c.if-b-eq-BACKSLASH.true) }
 
 pub overflow_cast-result : goal.overflow_cast-result
 overflow_cast-result c = omega (arith, (class_bare c.requires.reads c.byte_at-b.ensures.0 c.if-b-eq-BACKSLASH.false).0)

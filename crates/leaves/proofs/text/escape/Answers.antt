@@ -21,10 +21,12 @@ returns-else-b-eq-CODE c = (escape_plain c.requires.reads c.byte_at-b.ensures.0 
 
 pub overflow_mul-result : goal.overflow_mul-result
 overflow_mul-result c =
-    let digits : (c.hex_value-high.result < 16) × (c.hex_value-low.result < 16) = let e = escape_coded c.requires.reads c.byte_at-b.ensures.0 c.if-b-eq-CODE.true c.hex_value-high.ensures c.hex_value-low.ensures in (e.0, e.1) in
+    let digits : (c.hex_value-high.result < 16) × (c.hex_value-low.result < 16) =
+    let e = escape_coded c.requires.reads c.byte_at-b.ensures.0 c.if-b-eq-CODE.true c.hex_value-high.ensures c.hex_value-low.ensures in (e.0, e.1) in
     omega (arith, digits)
 
 pub overflow_add-result-then-b-eq-CODE : goal.overflow_add-result-then-b-eq-CODE
 overflow_add-result-then-b-eq-CODE c =
-    let digits : (c.hex_value-high.result < 16) × (c.hex_value-low.result < 16) = let e = escape_coded c.requires.reads c.byte_at-b.ensures.0 c.if-b-eq-CODE.true c.hex_value-high.ensures c.hex_value-low.ensures in (e.0, e.1) in
+    let digits : (c.hex_value-high.result < 16) × (c.hex_value-low.result < 16) =
+    let e = escape_coded c.requires.reads c.byte_at-b.ensures.0 c.if-b-eq-CODE.true c.hex_value-high.ensures c.hex_value-low.ensures in (e.0, e.1) in
     omega (arith, digits)
