@@ -1,4 +1,4 @@
-use Prim.Native.Nat.{◌+◌, ◌-◌, ◌*◌, ◌/◌, ◌<◌}
+use Prim.Native.Nat.{◌+◌, ◌*◌, ◌/◌, ◌<◌}
 use native.Mathlib.Omega.{arith}
 use borrow.Author.Rules.{rules}
 use mir.Syntax.{w64}
@@ -10,13 +10,13 @@ use Rattle.byte_runs.proofs.Ends.{left_start, left_from, left_none, left_end, be
 use Rattle.byte_runs.proofs.end_of.Goals as goal
 
 pub loop-rest-init : goal.loop-rest-init
-loop-rest-init c = let fit : Fits w64 (get_or c.args.t1 (c.args.b / 64) 0) = search rules in (search rules, search rules, λ x h k. absurd (omega arith), left_from _ _ fit.fits)
+loop-rest-init c = let fit : Fits w64 (get_or c.args.ends (c.args.b / 64) 0) = search rules in (search rules, search rules, λ x h k. absurd (omega arith), left_from _ _ fit.fits)
 
 pub loop-rest-preserved : goal.loop-rest-preserved
 loop-rest-preserved c =
-    let passed : NoEnd c.args.t1 c.args.b (64 * (c.loop-rest.w + 1)) = left_none c.loop-rest.invariant.3 c.loop-rest.invariant.2 c.loop-rest-test.true in
-    let more : 64 * (c.loop-rest.w + 1) < byte_values = before_last c.args.t1 c.args.b _ c.requires.1 c.requires.0 (passed) in
-    let fit : Fits w64 (get_or c.args.t1 (c.loop-rest.w + 1) 0) = search rules in
+    let passed : NoEnd c.args.ends c.args.b (64 * (c.loop-rest.w + 1)) = left_none c.loop-rest.invariant.3 c.loop-rest.invariant.2 c.loop-rest-test.true in
+    let more : 64 * (c.loop-rest.w + 1) < byte_values = before_last c.args.ends c.args.b _ c.requires.1 c.requires.0 (passed) in
+    let fit : Fits w64 (get_or c.args.ends (c.loop-rest.w + 1) 0) = search rules in
     (more, omega (arith, c.loop-rest.invariant.1), passed, left_start _ _ _ (omega (arith, c.loop-rest.invariant.1)) fit.fits)
 
 pub returns : goal.returns
@@ -24,8 +24,8 @@ returns c = left_end c.loop-rest.invariant.3 c.loop-rest.invariant.2 c.loop-rest
 
 pub bounds-ends-w-in-loop-rest : goal.bounds-ends-w-in-loop-rest
 bounds-ends-w-in-loop-rest c =
-    let passed : NoEnd c.args.t1 c.args.b (64 * (c.loop-rest.w + 1)) = left_none c.loop-rest.invariant.3 c.loop-rest.invariant.2 c.loop-rest-test.true in
-    let more : 64 * (c.loop-rest.w + 1) < byte_values = before_last c.args.t1 c.args.b _ c.requires.1 c.requires.0 (passed) in
+    let passed : NoEnd c.args.ends c.args.b (64 * (c.loop-rest.w + 1)) = left_none c.loop-rest.invariant.3 c.loop-rest.invariant.2 c.loop-rest-test.true in
+    let more : 64 * (c.loop-rest.w + 1) < byte_values = before_last c.args.ends c.args.b _ c.requires.1 c.requires.0 (passed) in
     omega (arith, more)
 
 pub overflow_cast-result : goal.overflow_cast-result

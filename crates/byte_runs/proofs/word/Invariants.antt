@@ -1,5 +1,4 @@
 -- The invariant: the number has the bits of the bytes from i on (`BytesJoining`).
-use Prim.Native.Nat.{◌-◌}
 use Rattle.byte_runs.proofs.Ends.{BytesJoining}
 use Rattle.byte_runs.proofs.word.Given as goal
 
