@@ -1,4 +1,3 @@
-use Prim.Native.Nat.{◌-◌}
 use mathlib.Core.Path.{◌≡◌}
 use native.Mathlib.Omega.{arith}
 use borrow.Author.Rules.{rules}
@@ -13,10 +12,10 @@ pub split-counted-requires : goal.split-counted-requires
 split-counted-requires c = record { byte_set_in_bounds = search rules; last_byte_value = (c.requires.runs_of.last, c.loop-p.invariant.1.size, group_below c.loop-p.invariant.1) }
 
 pub returns-in-Many : goal.returns-in-Many
-returns-in-Many c = group_many c.args.bytes.now _ _ (end_like c.requires.runs_of) c.loop-p-test.true c.loop-p.invariant.1 _ c.split-counted.ensures c.enum_told-1.given.1
+returns-in-Many c = group_many c.args.bytes.now _ _ (end_like c.requires.runs_of) c.loop-p-test.true c.loop-p.invariant.1 _ c.split-counted.ensures c.in-Many.is
 
 pub loop-p-preserved : goal.loop-p-preserved
-loop-p-preserved c = (search rules, group_next c.args.bytes.now _ _ (end_like c.requires.runs_of) c.loop-p-test.true c.loop-p.invariant.1 _ c.split-counted.ensures _ c.counted-1.given.1)
+loop-p-preserved c = (search rules, group_next c.args.bytes.now _ _ (end_like c.requires.runs_of) c.loop-p-test.true c.loop-p.invariant.1 _ c.split-counted.ensures _ c.in-Few.is)
 
 pub spread-requires : goal.spread-requires
 spread-requires c = (c.requires.runs_of.last, c.loop-p.invariant.1.size)

@@ -1,4 +1,4 @@
-use Prim.Native.Nat.{ℕ, ◌-◌, ◌+◌, ◌^◌}
+use Prim.Native.Nat.{ℕ, ◌+◌, ◌^◌}
 use mathlib.Core.Path.{◌≡◌, sym, ap, ◌∙◌}
 use mathlib.Core.Bool.{Bool}
 use native.Mathlib.Omega.{arith}
@@ -17,7 +17,12 @@ pub loop-p-preserved : goal.loop-p-preserved
 loop-p-preserved c = let l = c.loop-p in let a = c.args in
     let in-set : ℕ → Bool = λ p. held a.bytes.now p a.b in (
       search rules,
-      elim c.if-bit-eq1.branch [ then-bit-eq1 w ↦ rw w.2 (w.1.ensures ∙ ap (λ (n : ℕ). bit_or n (2 ^ (l.p + 1))) l.invariant.1 ∙ sym (joined_with in-set (λ p. 2 ^ (p + 1)) l.p (held_bit a.bytes.now l.p a.b (sym c.bit.ensures.0 ∙ w.if-bit-eq1.true)))) | else-bit-eq1 w ↦ rw w.1 (l.invariant.1 ∙ sym (joined_without in-set (λ p. 2 ^ (p + 1)) l.p (held_not a.bytes.now l.p a.b (λ e. w.if-bit-eq1.false (c.bit.ensures.0 ∙ e))))) ],
+      elim c.if-bit-eq1.branch [
+        | then-bit-eq1 w ↦ rw w.mask-is (w.with-mask.ensures ∙ ap (λ (n : ℕ). bit_or n (2 ^ (l.p + 1))) l.invariant.1
+            ∙ sym (joined_with in-set (λ p. 2 ^ (p + 1)) l.p (held_bit a.bytes.now l.p a.b (sym c.bit.ensures.0 ∙ w.if-bit-eq1.true))))
+        | else-bit-eq1 w ↦ rw w.mask-is (l.invariant.1
+            ∙ sym (joined_without in-set (λ p. 2 ^ (p + 1)) l.p (held_not a.bytes.now l.p a.b (λ e. w.if-bit-eq1.false (c.bit.ensures.0 ∙ e)))))
+      ],
     )
 
 pub returns : goal.returns

@@ -1,4 +1,4 @@
-use Prim.Native.Nat.{ℕ, ◌*◌, ◌-◌}
+use Prim.Native.Nat.{ℕ, ◌*◌}
 use mathlib.Core.Path.{◌≡◌}
 use native.Mathlib.Omega.{arith}
 use borrow.Author.Rules.{rules}
@@ -20,9 +20,12 @@ overflow_add-n c = omega (arith, group_below c.requires.runs_of.1.1 c.end_of-b.r
 
 pub loop-from-preserved : goal.loop-from-preserved
 loop-from-preserved c = let p = c.requires.runs_of in (
-      search rules,
-      elim c.if-class-n.branch [ then-class-n w ↦ rw (w.5, w.6) (masking_new p.0 p.1.1 c.end_of-b.ensures c.loop-from.invariant.1 w.if-class-n.true w.2.ensures w.3.ensures) | else-class-n w ↦ rw (w.1, w.2) (masking_old p.0 p.1.1 c.end_of-b.ensures c.loop-from.invariant.1 w.if-class-n.false) ],
-    )
+  search rules,
+  elim c.if-class-n.branch [
+    | then-class-n w ↦ rw (w.masks-is, w.n-is) (masking_new p.0 p.1.1 c.end_of-b.ensures c.loop-from.invariant.1 w.if-class-n.true w.byte_mask.ensures w.store.ensures)
+    | else-class-n w ↦ rw (w.masks-is, w.n-is) (masking_old p.0 p.1.1 c.end_of-b.ensures c.loop-from.invariant.1 w.if-class-n.false)
+  ],
+)
 
 pub returns : goal.returns
 returns c = let e : c.loop-from.from ≡ byte_values = omega arith in rw e at c.loop-from.invariant.1.masked
