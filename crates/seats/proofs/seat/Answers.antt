@@ -20,8 +20,9 @@ pub returns-then-is_at : goal.returns-then-is_at
 returns-then-is_at c = let g = c.is_at.ensures c.if-is_at.true in record { seated = seated_guess _ _ _ _ g; guessed = guessed_there c.requires.2 g.0 }
 
 pub find-i-requires : goal.find-i-requires
-find-i-requires c = let d = c.requires in
-record { n_le_state_limit = (d.0, d.1); fact = λ e. guess_none d.2 _ (rw c.remainder-at.ensures at e) }
+find-i-requires c =
+    let d = c.requires in
+    record { n_le_state_limit = (d.0, d.1); fact = λ e. guess_none d.2 _ (rw c.remainder-at.ensures at e) }
 
 pub overflow_cast-guesses : goal.overflow_cast-guesses
 overflow_cast-guesses c = omega (arith, c.find-i.ensures.most, c.requires.0)
@@ -33,17 +34,20 @@ pub bounds-guesses-at-2 : goal.bounds-guesses-at-2
 bounds-guesses-at-2 c = omega (arith, c.remainder-at.ensures, remainder_in (set_value c.args.s.words), c.requires.2.long)
 
 pub returns-then-n-lt-STATES : goal.returns-then-n-lt-STATES
-returns-then-n-lt-STATES c = let d = c.requires in
-let f = c.find-i.ensures in
-let p = c.store.ensures in
-record { seated = seated_new _ _ _ _ _ f c.if-i-n.true c.if-n-lt-STATES.true p; guessed = rw c.remainder-at.ensures (guessed_new d.2 d.0 _ _ f.most p) }
+returns-then-n-lt-STATES c =
+    let d = c.requires in
+    let f = c.find-i.ensures in
+    let p = c.store.ensures in
+    record { seated = seated_new _ _ _ _ _ f c.if-i-n.true c.if-n-lt-STATES.true p; guessed = rw c.remainder-at.ensures (guessed_new d.2 d.0 _ _ f.most p) }
 
 pub returns-else-n-lt-STATES : goal.returns-else-n-lt-STATES
-returns-else-n-lt-STATES c = let d = c.requires in
-let f = c.find-i.ensures in
-record { seated = seated_none _ _ _ _ f (λ e. omega arith); guessed = rw c.remainder-at.ensures (guessed_none d.2 d.0 _ _ f.most (λ e. omega arith)) }
+returns-else-n-lt-STATES c =
+    let d = c.requires in
+    let f = c.find-i.ensures in
+    record { seated = seated_none _ _ _ _ f (λ e. omega arith); guessed = rw c.remainder-at.ensures (guessed_none d.2 d.0 _ _ f.most (λ e. omega arith)) }
 
 pub returns-else-i-n : goal.returns-else-i-n
-returns-else-i-n c = let d = c.requires in
-let f = c.find-i.ensures in
-record { seated = seated_none _ _ _ _ f (λ e. absurd (c.if-i-n.false e)); guessed = rw c.remainder-at.ensures (guessed_none d.2 d.0 _ _ f.most (λ e. absurd (c.if-i-n.false e))) }
+returns-else-i-n c =
+    let d = c.requires in
+    let f = c.find-i.ensures in
+    record { seated = seated_none _ _ _ _ f (λ e. absurd (c.if-i-n.false e)); guessed = rw c.remainder-at.ensures (guessed_none d.2 d.0 _ _ f.most (λ e. absurd (c.if-i-n.false e))) }
