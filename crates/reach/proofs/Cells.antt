@@ -15,7 +15,7 @@ use lib.Bits.{bit_and}
 use lib.ListN.{length, set}
 use lib.Seq.{get_or-set_same, get_or-set_other}
 use Rattle.scope.specs.Limits.{class_limit, state_limit, cells_at, ways_at, set_words}
-use Rattle.scope.specs.Text.Re.{Re, size}
+use Rattle.scope.specs.Text.Re.{Re}
 use Rattle.scope.specs.Positions.Bits.{move}
 use Rattle.scope.specs.Positions.Reached.{ReachedSet, ManySets}
 use Rattle.scope.proofs.Positions.Reached.{reached_next}

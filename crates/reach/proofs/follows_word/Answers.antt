@@ -1,6 +1,4 @@
-use Prim.Native.Nat.{◌+◌, ◌-◌, ◌<◌}
 use native.Mathlib.Omega.{arith}
-use lib.Count.{count_trailing_zeros}
 use Rattle.reach.proofs.Passing.{passing_none, passing_in, passing_more, passing_end}
 use Rattle.reach.proofs.follows_word.Goals as goal
 
@@ -9,42 +7,42 @@ loop-rest-init c = passing_none _ _ _ _
 
 pub overflow_cast-zeros : goal.overflow_cast-zeros
 overflow_cast-zeros c =
-    let below : c.loop-rest.at + count_trailing_zeros 64 c.loop-rest.rest < 64 = passing_in c.loop-rest.invariant c.ranges.x.fits c.loop-rest-test.true in
+    let below = passing_in c.loop-rest.invariant c.ranges.x.fits c.loop-rest-test.true in
     omega (arith, below)
 
 pub overflow_add-w : goal.overflow_add-w
 overflow_add-w c =
-    let below : c.loop-rest.at + count_trailing_zeros 64 c.loop-rest.rest < 64 = passing_in c.loop-rest.invariant c.ranges.x.fits c.loop-rest-test.true in
+    let below = passing_in c.loop-rest.invariant c.ranges.x.fits c.loop-rest-test.true in
     omega (arith, below)
 
 pub overflow_add-w-in-loop-rest : goal.overflow_add-w-in-loop-rest
 overflow_add-w-in-loop-rest c =
-    let below : c.loop-rest.at + count_trailing_zeros 64 c.loop-rest.rest < 64 = passing_in c.loop-rest.invariant c.ranges.x.fits c.loop-rest-test.true in
+    let below = passing_in c.loop-rest.invariant c.ranges.x.fits c.loop-rest-test.true in
     omega (arith, below)
 
 pub load-requires : goal.load-requires
 load-requires c =
-    let below : c.loop-rest.at + count_trailing_zeros 64 c.loop-rest.rest < 64 = passing_in c.loop-rest.invariant c.ranges.x.fits c.loop-rest-test.true in
+    let below = passing_in c.loop-rest.invariant c.ranges.x.fits c.loop-rest-test.true in
     omega (arith, below)
 
 pub overflow_shr-rest : goal.overflow_shr-rest
 overflow_shr-rest c =
-    let below : c.loop-rest.at + count_trailing_zeros 64 c.loop-rest.rest < 64 = passing_in c.loop-rest.invariant c.ranges.x.fits c.loop-rest-test.true in
+    let below = passing_in c.loop-rest.invariant c.ranges.x.fits c.loop-rest-test.true in
     omega (arith, below)
 
 pub overflow_add-at : goal.overflow_add-at
 overflow_add-at c =
-    let below : c.loop-rest.at + count_trailing_zeros 64 c.loop-rest.rest < 64 = passing_in c.loop-rest.invariant c.ranges.x.fits c.loop-rest-test.true in
+    let below = passing_in c.loop-rest.invariant c.ranges.x.fits c.loop-rest-test.true in
     omega (arith, below)
 
 pub overflow_add-at-in-loop-rest : goal.overflow_add-at-in-loop-rest
 overflow_add-at-in-loop-rest c =
-    let below : c.loop-rest.at + count_trailing_zeros 64 c.loop-rest.rest < 64 = passing_in c.loop-rest.invariant c.ranges.x.fits c.loop-rest-test.true in
+    let below = passing_in c.loop-rest.invariant c.ranges.x.fits c.loop-rest-test.true in
     omega (arith, below)
 
 pub loop-rest-smaller : goal.loop-rest-smaller
 loop-rest-smaller c =
-    let below : c.loop-rest.at + count_trailing_zeros 64 c.loop-rest.rest < 64 = passing_in c.loop-rest.invariant c.ranges.x.fits c.loop-rest-test.true in
+    let below = passing_in c.loop-rest.invariant c.ranges.x.fits c.loop-rest-test.true in
     omega (arith, below)
 
 pub loop-rest-preserved : goal.loop-rest-preserved

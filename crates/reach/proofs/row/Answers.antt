@@ -1,4 +1,3 @@
-use Prim.Native.Nat.{◌-◌}
 use native.Mathlib.Omega.{arith}
 use borrow.Author.Rules.{rules}
 use Rattle.reach.proofs.Cells.{row_fits, filling_none, filling_full, filling_old, filling_new, filling_end}
@@ -24,7 +23,10 @@ pub bounds-image-at : goal.bounds-image-at
 bounds-image-at c = omega (arith, row_fits c.args.k c.args.q c.requires.0.classes (omega (arith, c.requires.0.row, c.requires.0.states)))
 
 pub loop-c-preserved : goal.loop-c-preserved
-loop-c-preserved c = elim c.if-i-m.branch [ then-i-m v ↦ rw v.1 (search (rules, filling_new), c.seat-i.ensures.guessed.new v.if-i-m.true (omega (arith, c.seat-i.ensures.seated.most, c.if-i-eq-STATES.false))) | else-i-m v ↦ rw v.1 (search (rules, filling_old), c.seat-i.ensures.guessed.old) ]
+loop-c-preserved c = elim c.if-i-m.branch [
+  | then-i-m v ↦ rw v.m-is (search (rules, filling_new), c.seat-i.ensures.guessed.new v.if-i-m.true (omega (arith, c.seat-i.ensures.seated.most, c.if-i-eq-STATES.false)))
+  | else-i-m v ↦ rw v.m-is (search (rules, filling_old), c.seat-i.ensures.guessed.old)
+]
 
 pub returns : goal.returns
 returns c = record { guesses_for = c.loop-c.invariant.1; row_answer = search (rules, filling_end) }

@@ -1,4 +1,3 @@
-use Prim.Native.Nat.{◌-◌}
 use borrow.Author.Rules.{rules}
 use Rattle.reach.proofs.RowsFilled.{filled_none, filled_next, filled_many, filled_end}
 use Rattle.seats.proofs.Seats.{guesses_first}
@@ -11,12 +10,12 @@ pub row-counted-requires : goal.row-counted-requires
 row-counted-requires c = (search rules, c.loop-q.invariant.1)
 
 pub returns-in-Many : goal.returns-in-Many
-returns-in-Many c = filled_many c.requires.row_fits c.loop-q.invariant.0 c.loop-q-test.true c.load.ensures c.follows-union.ensures c.row-counted.ensures.row_answer c.enum_told-1.given.1
+returns-in-Many c = filled_many c.requires.row_fits c.loop-q.invariant.0 c.loop-q-test.true c.load.ensures c.follows-union.ensures c.row-counted.ensures.row_answer c.in-Many.is
 
 pub loop-q-preserved : goal.loop-q-preserved
 loop-q-preserved c = (
-  filled_next c.requires.row_fits c.loop-q.invariant.0 c.loop-q-test.true c.load.ensures c.follows-union.ensures c.row-counted.ensures.row_answer _ c.counted-1.given.1,
-  rw c.counted-1.given.1 at c.row-counted.ensures.guesses_for,
+  filled_next c.requires.row_fits c.loop-q.invariant.0 c.loop-q-test.true c.load.ensures c.follows-union.ensures c.row-counted.ensures.row_answer _ c.in-Few.is,
+  rw c.in-Few.is at c.row-counted.ensures.guesses_for,
 )
 
 pub returns : goal.returns
