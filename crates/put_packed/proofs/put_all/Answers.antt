@@ -9,8 +9,10 @@ pub put_part-marks-requires : goal.put_part-marks-requires
 put_part-marks-requires c = marks_due c.requires c.put_head-head.ensures c.head-machine.ensures c.put_part-classes.ensures
 
 pub put_part-requires : goal.put_part-requires
-put_part-requires c = let used = c.used_cells-cells in cells_due c.requires c.put_head-head.ensures c.head-machine.ensures c.put_part-classes.ensures c.put_part-marks.ensures used.ensures.0
+put_part-requires c =
+    cells_due c.requires c.put_head-head.ensures c.head-machine.ensures c.put_part-classes.ensures c.put_part-marks.ensures c.used_cells-cells.ensures.0
 
 pub returns : goal.returns
-returns c = let used = c.used_cells-cells in fields_out c.requires c.put_head-head.ensures c.head-machine.ensures c.put_part-classes.ensures c.put_part-marks.ensures used.ensures.0
+returns c =
+    fields_out c.requires c.put_head-head.ensures c.head-machine.ensures c.put_part-classes.ensures c.put_part-marks.ensures c.used_cells-cells.ensures.0
     c.put_part.ensures

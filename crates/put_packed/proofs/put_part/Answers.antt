@@ -1,4 +1,4 @@
-use Prim.Native.Nat.{◌+◌, ◌-◌}
+use Prim.Native.Nat.{◌+◌}
 use mathlib.Core.Path.{◌≡◌}
 use native.Mathlib.Omega.{arith}
 use borrow.Author.Rules.{rules}
@@ -21,5 +21,7 @@ pub shape_of-out : goal.shape_of-out
 shape_of-out c = let l = c.loop-i in (passes_here c.requires l.i l.invariant.1).done.size
 
 pub returns : goal.returns
-returns c = let l = c.loop-i in let e : l.i ≡ c.args.count = omega arith in
+returns c =
+    let l = c.loop-i in
+    let e : l.i ≡ c.args.count = omega arith in
     rw (← e) l.invariant.1
