@@ -4,7 +4,7 @@
 --   field_of: a field of w bits in two bytes
 --   form_small: the bytes of the form of a sound room are bytes
 --   sound_laid: the bits of a form of a sound room are laid out for it
-use Prim.Native.Nat.{ℕ, suc, ◌+◌, ◌*◌, ◌/◌, ◌%◌, ◌^◌, ◌≤◌, ◌<◌}
+use Prim.Native.Nat.{ℕ, zero, suc, ◌+◌, ◌*◌, ◌/◌, ◌%◌, ◌^◌, ◌≤◌, ◌<◌}
 use mathlib.Core.Path.{◌≡◌, refl, sym, ap, ◌∙◌}
 use mathlib.Core.Logic.{inl, inr}
 use mathlib.Core.List.{List, [], append-nil}
@@ -18,7 +18,7 @@ use Rattle.scope.specs.Machines.Room.{SoundTable}
 use Rattle.scope.specs.Packing.PackedForm.{value, fields, form_bits, form_length, form_byte, FormOf}
 use Rattle.scope.specs.Packing.Laid.{from, Holds, Laid}
 use Rattle.scope.proofs.Counting.Tests.{split}
-use Rattle.scope.proofs.Packing.PackedForm.{fields_length, form_bits_lem}
+use Rattle.scope.proofs.Packing.PackedForm.{fields_length}
 use Rattle.scope.proofs.Packing.ReadBack.{value_lt, value_join, value_one, fields_at, fields_are}
 use Rattle.scope.proofs.Packing.Laid.{form_laid, laid_ext}
 use Rattle.packed_bits.specs.PackedFields.{room_bit}
@@ -28,6 +28,7 @@ use Rattle.take_packed.specs.FormImage.{form_bit}
 -- only zero bits make 0
 pub all_zero : (n : ℕ) (f : ℕ → ℕ) → value n f ≡ 0 → (j : ℕ) → j < n → f j ≡ 0
 unfolding value
+all_zero zero f e j l = elim l [ ]
 all_zero (suc n) f e j l = elim (split j n) [
   | inl k ↦ all_zero n f (omega arith) j k
   | inr k ↦ let t : j ≡ n = omega arith in rw t (omega arith)

@@ -11,10 +11,12 @@ pub overflow_cast-result : goal.overflow_cast-result
 overflow_cast-result c = omega (arith, c.type_inv.form c.args.i)
 
 pub returns-then-i-form : goal.returns-then-i-form
-returns-then-i-form c = let a = c.args in
+returns-then-i-form c =
+    let a = c.args in
     let small = c.type_inv.form a.i in
     (form_byte_lem a.form.now a.i (omega (arith, small)), omega (arith, small))
 
 pub returns-else-i-form : goal.returns-else-i-form
-returns-else-i-form c = let a = c.args in
+returns-else-i-form c =
+    let a = c.args in
     (zeros (form_bit a.form.now) (a.i * 8) 8 (λ j l. past a.form.now j (omega arith)), lit< tt)

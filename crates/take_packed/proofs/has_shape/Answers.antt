@@ -13,7 +13,9 @@ pub returns-then-take-ne-FORM_NUMBER : goal.returns-then-take-ne-FORM_NUMBER
 returns-then-take-ne-FORM_NUMBER c = let number = c.take in judged_not (no_number c.requires number.result number.ensures.0 c.if-take-ne-FORM_NUMBER.true)
 
 pub returns : goal.returns
-returns c = let bits = c.form_bits-bits in let number : Holds (form_bit c.args.form.now) 0 4 1 = c.take.ensures.0 ∙ omega arith in
+returns c =
+    let bits = c.form_bits-bits in
+    let number : Holds (form_bit c.args.form.now) 0 4 1 = c.take.ensures.0 ∙ omega arith in
     judged c.requires bits.result bits.ensures.0 c.take-2.result
     (λ i. omega (arith, c.type_inv.form i))
     (omega arith)

@@ -8,7 +8,8 @@ pub take_all-requires : goal.take_all-requires
 take_all-requires c = (c.has_shape.ensures.yes c.if-has_shape.true, search rules)
 
 pub returns-then-has_shape : goal.returns-then-has_shape
-returns-then-has_shape c = let (image, tail) = c.take_all.ensures in
+returns-then-has_shape c =
+    let (image, tail) = c.take_all.ensures in
     record { tail = tail; yes = λ e. image; no = λ e. absurd (false≢true (sym e)); kept = λ e. absurd (false≢true (sym e)) }
 
 pub returns-else-has_shape : goal.returns-else-has_shape
