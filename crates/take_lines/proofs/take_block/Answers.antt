@@ -1,6 +1,5 @@
 use borrow.Author.Rules.{rules}
 use Rattle.take_lines.proofs.Blocks.{takes_none, takes_more, takes_rest, takes_whole}
-use Prim.Native.Nat.{◌-◌}
 use Rattle.take_lines.proofs.take_block.Goals as goal
 
 pub loop-i-init : goal.loop-i-init
