@@ -14,19 +14,19 @@ put_text-next-requires c = omega (arith, simp length-append at c.requires)
 pub put_counts-requires : goal.put_counts-requires
 put_counts-requires c =
     let side : Side = side_of c.args.side in
-    omega (arith, room_behind (told (side)) c.put_text-next.ensures c.requires, ap length (told_done (side) c.if-side-eq-DONE.true))
+    omega (arith, room_behind (told side) c.put_text-next.ensures c.requires, ap length (told_done side c.if-side-eq-DONE.true))
 
 pub returns-then-side-eq-DONE : goal.returns-then-side-eq-DONE
 returns-then-side-eq-DONE c =
     let side : Side = side_of c.args.side in
-    appended_join c.put_text-next.ensures (appended_as (sym (told_done (side) c.if-side-eq-DONE.true)) c.put_counts.ensures)
+    appended_join c.put_text-next.ensures (appended_as (sym (told_done side c.if-side-eq-DONE.true)) c.put_counts.ensures)
 
 pub put_counts-requires-2 : goal.put_counts-requires-2
 put_counts-requires-2 c =
     let side : Side = side_of c.args.side in
-    omega (arith, room_behind (told (side)) c.put_text-next.ensures c.requires, ap length (told_refused (side) c.if-side-eq-DONE.false))
+    omega (arith, room_behind (told side) c.put_text-next.ensures c.requires, ap length (told_refused side c.if-side-eq-DONE.false))
 
 pub returns : goal.returns
 returns c =
     let side : Side = side_of c.args.side in
-    appended_join c.put_text-next.ensures (appended_as (sym (told_refused (side) c.if-side-eq-DONE.false)) c.put_counts-2.ensures)
+    appended_join c.put_text-next.ensures (appended_as (sym (told_refused side c.if-side-eq-DONE.false)) c.put_counts-2.ensures)
