@@ -12,61 +12,63 @@
 mod rooms;
 mod show;
 
-ghost use Rattle.std.specs.Prelude.{◌≤◌, length};
+ghost use Rattle.std.specs.Prelude.{◌≡◌, ◌≢◌, ℕ, ◌<◌, ◌≤◌, length, slice_index, IfOk};
 
 use answers::{Compared, Matched};
 use scope::Machine;
+use std::io;
+use std::io::{Read, Stdin, Stdout, Write};
+
+// How many bytes of the input are read at most.
+const INPUT: usize = 65536;
 
 // Compiles a pattern.
-fn compiles(pattern: &[u8]) {
+fn compiles(out: &mut Stdout, pattern: &[u8]) -> io::Result<()> {
     let mut room = [0u8; Machine::ROOM];
     let mut bytes = [7u8; Machine::SCRATCH_BYTES];
     let mut words = [7u64; Machine::SCRATCH_WORDS];
     let mut place: usize = 7;
     let number = compile_numbers::compile(pattern, &mut room, &mut bytes, &mut words, &mut place);
     if number == 0 {
-        show::sizes(&room);
-        return;
+        return show::sizes(out, &room);
     }
-    show::refused(number);
-    show::number(b" at ", place);
+    show::refused(out, number)?;
+    show::number(out, b" at ", place)
 }
 
 // Minimises a room.
-fn minimises(from: &[u8]) {
+fn minimises(out: &mut Stdout, from: &[u8]) -> io::Result<()> {
     let mut to = [7u8; Machine::ROOM];
     let mut bytes = [7u8; Machine::SCRATCH_BYTES];
     let mut words = [7u64; Machine::SCRATCH_WORDS];
     let number = minimise_numbers::minimise(from, &mut to, &mut bytes, &mut words);
     if number == 0 {
-        show::sizes(&to);
-        return;
+        return show::sizes(out, &to);
     }
-    show::refused(number);
+    show::refused(out, number)
 }
 
 // Matches a text.
-fn matches_text(room: &[u8], text: &[u8]) {
+fn matches_text(out: &mut Stdout, room: &[u8], text: &[u8]) -> io::Result<()> {
     let answer = matching::match_text(room, text);
     match answer {
-        Matched::Accepted => show::text(b"accepted"),
-        Matched::Dead(place) => show::number(b"dead ", place),
-        Matched::Unfinished => show::text(b"unfinished"),
-        _ => show::refused(answer.number()),
+        Matched::Accepted => show::text(out, b"accepted"),
+        Matched::Dead(place) => show::number(out, b"dead ", place),
+        Matched::Unfinished => show::text(out, b"unfinished"),
+        _ => show::refused(out, answer.number()),
     }
 }
 
 // Matches a text as it is given, or the one that has a name.
-fn matches(room: &[u8], given: &[u8]) {
+fn matches(out: &mut Stdout, room: &[u8], given: &[u8]) -> io::Result<()> {
     if rooms::are_same(given, b"{lines}") {
-        matches_text(room, b"a\nb");
-        return;
+        return matches_text(out, room, b"a\nb");
     }
-    matches_text(room, given);
+    matches_text(out, room, given)
 }
 
 // Compares a room with that of a name or a pattern.
-fn compares(left: &[u8], given: &[u8]) {
+fn compares(out: &mut Stdout, left: &[u8], given: &[u8]) -> io::Result<()> {
     let start: usize = 0;
     let right = rooms::room_of(given);
     let long = rooms::length_of(given);
@@ -75,28 +77,42 @@ fn compares(left: &[u8], given: &[u8]) {
     let mut words = [7u64; Machine::SCRATCH_WORDS];
     let answer = compare::compare(left, &right[start..long], &mut word, &mut bytes, &mut words);
     match answer {
-        Compared::Same(rounds) => show::number(b"same rounds ", rounds),
+        Compared::Same(rounds) => show::number(out, b"same rounds ", rounds),
         Compared::Separated(length, rounds) => {
-            show::text(b"separated ");
-            show::word(&word, length);
-            show::number(b" rounds ", rounds);
+            show::text(out, b"separated ")?;
+            show::word(out, &word, length)?;
+            show::number(out, b" rounds ", rounds)
         }
-        _ => show::refused(answer.number()),
+        _ => show::refused(out, answer.number()),
     }
 }
 
 // Packs a room.
-fn packs(room: &[u8]) {
+fn packs(out: &mut Stdout, room: &[u8]) -> io::Result<()> {
     let mut form = [7u8; Machine::ROOM];
     let mut bytes = [7u8; Machine::SCRATCH_BYTES];
     let mut words = [7u64; Machine::SCRATCH_WORDS];
     let mut length: usize = 7;
     let number = pack_numbers::pack(room, &mut form, &mut bytes, &mut words, &mut length);
     if number == 0 {
-        show::number(b"bytes ", length);
-        return;
+        return show::number(out, b"bytes ", length);
     }
-    show::refused(number);
+    show::refused(out, number)
+}
+
+// Where the first such byte stands from `from` on; the end of the line if there is none.
+fn find(line: &[u8], from: usize, byte: u8) -> usize
+    requires { from ≤ length line.now }
+    ensures within { (from ≤ result) × (result ≤ length line.now) }
+    ensures before { (k : ℕ) → from ≤ k → k < result → slice_index line.now k ≢ byte }
+    ensures found { result < length line.now → slice_index line.now result ≡ byte }
+{
+    for i in from..line.len() {
+        if line[i] == byte {
+            return i;
+        }
+    }
+    line.len()
 }
 
 // Where the word behind the one that ends at `end` begins.
@@ -108,69 +124,85 @@ fn behind(line: &[u8], end: usize) -> usize
 }
 
 // Answers an operation on a room, and on what else it is given.
-fn asks_room(operation: &[u8], room: &[u8], other: &[u8]) {
+fn asks_room(out: &mut Stdout, operation: &[u8], room: &[u8], other: &[u8]) -> io::Result<()> {
     if rooms::are_same(operation, b"table") {
-        show::table(room);
+        return show::table(out, room);
     }
     if rooms::are_same(operation, b"minimise") {
-        minimises(room);
+        return minimises(out, room);
     }
     if rooms::are_same(operation, b"match") {
-        matches(room, other);
+        return matches(out, room, other);
     }
     if rooms::are_same(operation, b"compare") {
-        compares(room, other);
+        return compares(out, room, other);
     }
     if rooms::are_same(operation, b"pack") {
-        packs(room);
+        return packs(out, room);
     }
+    Ok(())
 }
 
 // Answers an operation on what it is given.
-fn asks(operation: &[u8], given: &[u8], other: &[u8]) {
+fn asks(out: &mut Stdout, operation: &[u8], given: &[u8], other: &[u8]) -> io::Result<()> {
     if rooms::are_same(operation, b"compile") {
-        compiles(given);
-        return;
+        return compiles(out, given);
     }
     let start: usize = 0;
     let room = rooms::room_of(given);
     let long = rooms::length_of(given);
-    asks_room(operation, &room[start..long], other);
+    asks_room(out, operation, &room[start..long], other)
 }
 
 // Answers a question.
-fn answers(line: &[u8]) {
+fn answers(out: &mut Stdout, line: &[u8]) -> io::Result<()> {
     let start: usize = 0;
-    let end = bytes::scan::find(line, start, line.len(), b' ');
+    let end = find(line, start, b' ');
     let from = behind(line, end);
-    let to = bytes::scan::find(line, from, line.len(), b' ');
+    let to = find(line, from, b' ');
     let rest = behind(line, to);
-    asks(&line[start..end], &line[from..to], &line[rest..]);
+    asks(out, &line[start..end], &line[from..to], &line[rest..])
 }
 
 // Prints a question and its answer.
-fn prints(line: &[u8]) {
-    show::text(line);
-    show::text(b" -> ");
-    answers(line);
-    show::text(b"\n");
+fn prints(out: &mut Stdout, line: &[u8]) -> io::Result<()> {
+    show::text(out, line)?;
+    show::text(out, b" -> ")?;
+    answers(out, line)?;
+    show::text(out, b"\n")
 }
 
 // Prints every question and its answer.
-fn print_lines(input: &[u8]) {
+fn print_lines(out: &mut Stdout, input: &[u8]) -> io::Result<()> {
     let mut at: usize = 0;
     while at < input.len() {
-        let end = bytes::scan::find(input, at, input.len(), b'\n');
-        prints(&input[at..end]);
+        let end = find(input, at, b'\n');
+        prints(out, &input[at..end])?;
         if end == input.len() {
-            return;
+            return Ok(());
         }
         at = end + 1;
     }
+    Ok(())
 }
 
-fn main() {
-    let mut input = io::large_buffer();
-    let n = io::read_full(0, &mut input);
-    print_lines(&input[..n]);
+// Reads until `buffer` is full or the input ends; answers how many bytes came.
+fn read_full(input: &mut Stdin, buffer: &mut [u8]) -> io::Result<usize>
+    ensures { IfOk result (λ n. n ≤ length buffer.new) }
+{
+    let mut done: usize = 0;
+    while done < buffer.len() {
+        let got = input.read(&mut buffer[done..])?;
+        if got == 0 {
+            return Ok(done);
+        }
+        done += got;
+    }
+    Ok(done)
+}
+
+fn main(rt: HostRuntime) -> io::Result<()> {
+    let mut input = [0u8; INPUT];
+    let n = read_full(&mut rt.stdin(), &mut input)?;
+    print_lines(&mut rt.stdout(), &input[..n])
 }
