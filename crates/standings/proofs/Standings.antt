@@ -21,7 +21,6 @@ use Rattle.scope.specs.Operations.Match.{Matches, no_room, no_form, accepted, de
 use Rattle.scope.specs.Machines.Room.{Sound}
 use Rattle.scope.proofs.Counting.Tests.{split}
 use Rattle.scope.proofs.Operations.Match.{determined}
-use Rattle.matching.proofs.Completable.{died}
 use Rattle.entry_form.specs.EntryForm.{field_limit, length_of, text_of}
 use Rattle.entry_form.specs.Text.{field_room, IsAccepted, IsDead}
 use Rattle.entry_form.specs.ValidForm.{Plain, OpenText}
@@ -38,6 +37,9 @@ stood {room} {text} {kept} u e = subst (Stands room text kept) e u
 -- a room that was matched is sound
 pub accepted_sound : {room text : List ℕ} → IsAccepted room text → Sound room
 accepted_sound (accepted s a) = s
+
+dead_sound : {room text : List ℕ} {i : ℕ} → Matches room text DEAD i → Sound room
+dead_sound (dead s d) = s
 
 -- of the first k bytes the first i are the first i
 take_within : (i k : ℕ) (t : List ℕ) → k ≤ length t → i ≤ k → take i (take k t) ≡ take i t
@@ -101,7 +103,7 @@ StandsHeld Standing.Lost = ⊥
 pub stands_held : {room text : List ℕ} {kept : ℕ} {s : Standing} → Bytes text → Stands room text kept s → StandsHeld s → Sound room × OpenText room (take kept text)
 stands_held {kept = k} g (stand.accepted a) h = (accepted_sound a, inr (prefix_kept k (accepted_kept g a)))
 stands_held {kept = k} g (stand.unfinished s a d) h = (s, inr (prefix_kept k d))
-stands_held g (stand.dead d k) h = ((died d.matched).0, k)
+stands_held g (stand.dead d k) h = (dead_sound d.matched, k)
 stands_held g (stand.lost n) h = absurd h
 
 -- ---- the open field
