@@ -2,9 +2,8 @@
 use Prim.Native.Nat.{◌+◌}
 use native.Mathlib.Omega.{arith}
 use borrow.Author.Rules.{rules}
-use borrow.Author.Tests.{not-true, not-false}
 use Rattle.entry_form.specs.EntryForm.{lengths_at}
-use Rattle.standings.proofs.Standings.{stood, inside}
+use Rattle.standings.proofs.Standings.{inside}
 use Rattle.typing.proofs.Keys.{presses_lost, presses_long, types_accepted, types_unfinished, types_dead, types_lost}
 use Rattle.typing.proofs.add.Goals as goal
 
@@ -15,12 +14,12 @@ pub of_typed-standing-requires : goal.of_typed-standing-requires
 of_typed-standing-requires c = let p = c.requires in (p.0, p.1, omega (arith, p.1.short, c.if-form-f-eq-TEXT.false))
 
 pub returns-then-not-is_kept : goal.returns-then-not-is_kept
-returns-then-not-is_kept c = presses_lost c.requires.0 (λ s k. c.is_kept.ensures.no (not-true _ c.if-not-is_kept.true-raw) (s, k))
+returns-then-not-is_kept c = presses_lost c.requires.0 (λ s k. c.is_kept.ensures.no c.if-not-is_kept.true (s, k))
 
 pub returns-then-form-f-eq-TEXT : goal.returns-then-form-f-eq-TEXT
 returns-then-form-f-eq-TEXT c = let p = c.requires in
-    let k = c.is_kept.ensures.yes (not-false _ c.if-not-is_kept.false-raw) in
-    presses_long p.0 p.1 (λ i. omega (arith, c.type_inv.form i)) k.0 k.1 p.2 c.if-form-f-eq-TEXT.true
+    let k = c.is_kept.ensures.yes c.if-not-is_kept.false in
+    presses_long p.0 p.1 (λ i. search rules) k.0 k.1 p.2 c.if-form-f-eq-TEXT.true
 
 pub append-requires : goal.append-requires
 append-requires c = let p = c.requires in (inside p.0, p.0.lent.form_long, p.1, omega (arith, p.1.short, c.if-form-f-eq-TEXT.false))
@@ -33,19 +32,19 @@ shape_of-form-in-Accepted c = c.append.ensures.size
 
 pub returns-in-Accepted : goal.returns-in-Accepted
 returns-in-Accepted c = let p = c.requires in
-    types_accepted p.0 p.1 (λ i. omega (arith, c.type_inv.form i)) (search rules) p.2 (omega (arith, p.1.short, c.if-form-f-eq-TEXT.false)) c.append.ensures (stood c.of_typed-standing.ensures c.enum_told-1.given.1)
+    types_accepted p.0 p.1 (λ i. search rules) (search rules) p.2 (omega (arith, p.1.short, c.if-form-f-eq-TEXT.false)) c.append.ensures c.in-Accepted.ensures
 
 pub shape_of-form-in-Unfinished : goal.shape_of-form-in-Unfinished
 shape_of-form-in-Unfinished c = c.append-in-Unfinished.ensures.size
 
 pub returns-in-Unfinished : goal.returns-in-Unfinished
 returns-in-Unfinished c = let p = c.requires in
-    types_unfinished p.0 p.1 (λ i. omega (arith, c.type_inv.form i)) (search rules) p.2 (omega (arith, p.1.short, c.if-form-f-eq-TEXT.false)) c.append-in-Unfinished.ensures (stood c.of_typed-standing.ensures c.enum_told-in-Unfinished-1.given.1)
+    types_unfinished p.0 p.1 (λ i. search rules) (search rules) p.2 (omega (arith, p.1.short, c.if-form-f-eq-TEXT.false)) c.append-in-Unfinished.ensures c.in-Unfinished.ensures
 
 pub returns-in-Dead : goal.returns-in-Dead
 returns-in-Dead c = let p = c.requires in
-    types_dead p.0 p.1 (λ i. omega (arith, c.type_inv.form i)) (search rules) p.2 (omega (arith, p.1.short, c.if-form-f-eq-TEXT.false)) (stood c.of_typed-standing.ensures c.enum_told-in-Dead-1.given.1)
+    types_dead p.0 p.1 (λ i. search rules) (search rules) p.2 (omega (arith, p.1.short, c.if-form-f-eq-TEXT.false)) c.in-Dead.ensures
 
 pub returns-in-Lost : goal.returns-in-Lost
 returns-in-Lost c = let p = c.requires in
-    types_lost p.0 p.1 (λ i. omega (arith, c.type_inv.form i)) (search rules) p.2 (omega (arith, p.1.short, c.if-form-f-eq-TEXT.false)) (stood c.of_typed-standing.ensures c.enum_told-in-Lost-1.given.1)
+    types_lost p.0 p.1 (λ i. search rules) (search rules) p.2 (omega (arith, p.1.short, c.if-form-f-eq-TEXT.false)) c.in-Lost.ensures
