@@ -1,10 +1,9 @@
 -- The count is judged, then the lengths, then the machines; then the count is stored, and zeros after it.
 use mathlib.Core.Path.{refl, ◌∙◌}
 use native.Mathlib.Omega.{arith}
-use borrow.Author.Tests.{not-true, not-false}
 use lib.ListN.{length-set}
 use Rattle.desk_rules.specs.Open.{no_fields, no_room, no_form, opened}
-use Rattle.desk.proofs.Opened.{zeros_shown, zeros_tail}
+use Rattle.desk.proofs.OpenedForm.{zeros_shown, zeros_tail}
 use Rattle.desk.proofs.open_form.Goals as goal
 
 pub returns-then-count-lt1 : goal.returns-then-count-lt1
@@ -14,26 +13,26 @@ pub returns-then-count-gt-FIELDS : goal.returns-then-count-gt-FIELDS
 returns-then-count-gt-FIELDS c = no_fields (λ f. omega (arith, f.few)) refl
 
 pub returns-then-not-is_lent : goal.returns-then-not-is_lent
-returns-then-not-is_lent c = no_room (record { some = omega arith; few = omega arith }) (c.is_lent.ensures.no (not-true _ c.if-not-is_lent.true-raw)) refl
+returns-then-not-is_lent c = no_room (record { some = omega arith; few = omega arith }) (c.is_lent.ensures.no c.if-not-is_lent.true) refl
 
 pub are_sound-requires : goal.are_sound-requires
-are_sound-requires c = (omega arith, (c.is_lent.ensures.yes (not-false _ c.if-not-is_lent.false-raw)).rooms_long)
+are_sound-requires c = (omega arith, (c.is_lent.ensures.yes c.if-not-is_lent.false).rooms_long)
 
 pub returns-then-not-are_sound : goal.returns-then-not-are_sound
-returns-then-not-are_sound c = no_form (record { some = omega (arith, c.if-count-lt1.false); few = omega (arith, c.if-count-gt-FIELDS.false) }) (c.is_lent.ensures.yes (not-false _ c.if-not-is_lent.false-raw))
-    (λ s. c.are_sound.ensures.no (not-true _ c.if-not-are_sound.true-raw) (λ f h k. s f h)) refl
+returns-then-not-are_sound c = no_form (record { some = omega (arith, c.if-count-lt1.false); few = omega (arith, c.if-count-gt-FIELDS.false) }) (c.is_lent.ensures.yes c.if-not-is_lent.false)
+    (λ s. c.are_sound.ensures.no c.if-not-are_sound.true (λ f h k. s f h)) refl
 
 pub bounds-form-0 : goal.bounds-form-0
-bounds-form-0 c = omega (arith, (c.is_lent.ensures.yes (not-false _ c.if-not-is_lent.false-raw)).form_long)
+bounds-form-0 c = omega (arith, (c.is_lent.ensures.yes c.if-not-is_lent.false).form_long)
 
 pub fill-requires : goal.fill-requires
-fill-requires c = (omega arith, omega (arith, (c.is_lent.ensures.yes (not-false _ c.if-not-is_lent.false-raw)).form_long, length-set c.args.form.now 0 c.args.count))
+fill-requires c = (omega arith, omega (arith, (c.is_lent.ensures.yes c.if-not-is_lent.false).form_long, length-set c.args.form.now 0 c.args.count))
 
 pub shape_of-form : goal.shape_of-form
 shape_of-form c = let a = c.args in c.fill.ensures.size ∙ length-set a.form.now 0 a.count
 
 pub returns : goal.returns
 returns c = let a = c.args in
-    let l = c.is_lent.ensures.yes (not-false _ c.if-not-is_lent.false-raw) in
+    let l = c.is_lent.ensures.yes c.if-not-is_lent.false in
     opened (record { some = omega (arith, c.if-count-lt1.false); few = omega (arith, c.if-count-gt-FIELDS.false) }) l
-    (λ f h. c.are_sound.ensures.yes (not-false _ c.if-not-are_sound.false-raw) f h (omega arith)) (zeros_shown a.count a.form.now c.fill.ensures l.form_long) (zeros_tail a.count a.form.now c.fill.ensures)
+    (λ f h. c.are_sound.ensures.yes c.if-not-are_sound.false f h (omega arith)) (zeros_shown a.count a.form.now c.fill.ensures l.form_long) (zeros_tail a.count a.form.now c.fill.ensures)

@@ -5,16 +5,16 @@ use Rattle.buffers.proofs.OneMore.{holds, fails}
 use Rattle.telling.proofs.is_dead.Goals as goal
 
 pub returns-in-Accepted : goal.returns-in-Accepted
-returns-in-Accepted c = rw c.enum_told-1.given.1 (fails (λ z. omega arith))
+returns-in-Accepted c = rw c.in-Accepted.is (fails (λ z. omega arith))
 
 pub returns-in-Dead : goal.returns-in-Dead
-returns-in-Dead c = rw c.enum_told-in-Dead-1.given.1 (holds refl)
+returns-in-Dead c = rw c.in-Dead.is (holds refl)
 
 pub returns-in-Unfinished : goal.returns-in-Unfinished
-returns-in-Unfinished c = rw c.enum_told-in-Unfinished-1.given.1 (fails (λ z. omega arith))
+returns-in-Unfinished c = rw c.in-Unfinished.is (fails (λ z. omega arith))
 
 pub returns-in-Room : goal.returns-in-Room
-returns-in-Room c = rw c.enum_told-in-Room-1.given.1 (fails (λ z. omega arith))
+returns-in-Room c = rw c.in-Room.is (fails (λ z. omega arith))
 
 pub returns-in-Form : goal.returns-in-Form
-returns-in-Form c = rw c.enum_told-in-Form-1.given.1 (fails (λ z. omega arith))
+returns-in-Form c = rw c.in-Form.is (fails (λ z. omega arith))

@@ -1,4 +1,3 @@
-use Prim.Native.Nat.{◌-◌}
 use mathlib.Core.Path.{◌≡◌}
 use mathlib.Core.Logic.{inl, inr}
 use native.Mathlib.Omega.{arith}
@@ -16,9 +15,10 @@ bounds-room-b c = omega (arith, c.requires.0.long)
 
 pub loop-b-preserved : goal.loop-b-preserved
 loop-b-preserved c = let l = c.loop-b in (
-      class_more c.args.room.now c.args.expected.now l.expected (omega (arith, c.requires.1)) (elim c.if-room-b.branch [ then-room-b w ↦ inl (w.if-room-b.true, w.1) | else-room-b w ↦ inr (w.if-room-b.false, w.1) ]) l.invariant.0,
-      search rules,
-    )
+  class_more c.args.room.now c.args.expected.now l.expected (omega (arith, c.requires.1))
+      (elim c.if-room-b.branch [ then-room-b w ↦ inl (w.if-room-b.true, w.x-is) | else-room-b w ↦ inr (w.if-room-b.false, w.x-is) ]) l.invariant.0,
+  search rules,
+)
 
 pub returns : goal.returns
 returns c = let l = c.loop-b in let e : l.b ≡ byte_values = omega (arith, l.invariant.1) in rw e at l.invariant.0

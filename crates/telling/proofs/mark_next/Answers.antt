@@ -1,4 +1,3 @@
-use Prim.Native.Nat.{◌-◌}
 use native.Mathlib.Omega.{arith}
 use borrow.Author.Rules.{rules}
 use Rattle.telling.proofs.Followed.{classes_more, classes_all}
@@ -17,7 +16,7 @@ pub mark-mark-requires : goal.mark-mark-requires
 mark-mark-requires c = (c.requires.0, c.cell-next.ensures.1)
 
 pub overflow_cast-class-in-loop-class : goal.overflow_cast-class-in-loop-class
-overflow_cast-class-in-loop-class c = cast-cell c
+overflow_cast-class-in-loop-class c = omega (arith, c.requires.0.table.few_classes, c.head-k.ensures.1)
 
 pub mark_class-requires : goal.mark_class-requires
 mark_class-requires c = (c.requires.0.table, c.loop-class.invariant.0.size)
