@@ -96,6 +96,7 @@ module _ {a part kind least column order number into : List ℕ} {kinds n : ℕ}
         bytes = bytes_append r.word (x ∷ []) r.bytes (b, tt);
         leads = run_append N 0 r.word (x ∷ []) ∙ rw r.leads z;
       }
+  reached zero v h l = elim h [ ]
 
   -- the numbered parts are the smallest machine of the room's strings
   pub smallest : Smallest a order into n

@@ -1,4 +1,3 @@
-use Prim.Native.Nat.{◌-◌}
 use mathlib.Core.Path.{◌≡◌}
 use native.Mathlib.Omega.{arith}
 use borrow.Author.Rules.{rules}
@@ -33,10 +32,16 @@ pub head-requires : goal.head-requires
 head-requires c = omega (arith, c.requires.sweepable.sound.long)
 
 pub numbers-requires : goal.numbers-requires
-numbers-requires c = let (d, k) = (c.requires.sweepable, c.requires.order_len) in
+numbers-requires c =
+    let d = c.requires.sweepable in
     let w = c.loop-q.invariant.1 in
-    (rw c.head.ensures.0 (d.sound.few_states, omega (arith, swept_few d.sound w, d.sound.few_states), (λ t h g. d.parts.inside t h), numbers_fit d.sound w), k.1)
+    record {
+      n_le_state_limit = rw c.head.ensures.0 (d.sound.few_states, omega (arith, swept_few d.sound w, d.sound.few_states), (λ t h g. d.parts.inside t h), numbers_fit d.sound w);
+      into_len = c.requires.order_len.1;
+    }
 
 pub returns : goal.returns
-returns c = let l = c.loop-q in let e : l.q ≡ l.count = omega (arith, l.invariant.0, c.loop-q-test.false) in
+returns c =
+    let l = c.loop-q in
+    let e : l.q ≡ l.count = omega (arith, l.invariant.0, c.loop-q-test.false) in
     record { number = l.number; swept = rw e at l.invariant.1; numbers = rw c.head.ensures.0 at c.numbers.ensures }

@@ -1,4 +1,4 @@
-use Prim.Native.Nat.{◌-◌, ◌≤◌}
+use Prim.Native.Nat.{◌≤◌}
 use mathlib.Core.Path.{refl}
 use native.Mathlib.Nat.{mul-le-mul}
 use native.Mathlib.Omega.{arith}
@@ -78,7 +78,13 @@ pub overflow_add-count : goal.overflow_add-count
 overflow_add-count c = omega (arith, row_fewer c.requires.sweepable c.loop-i.invariant c.loop-i-test.true c.if-number-t-eq-STATES.true)
 
 pub loop-i-preserved : goal.loop-i-preserved
-loop-i-preserved c = elim c.if-number-t-eq-STATES.branch [ then-number-t-eq-STATES w ↦ rw (w.1, w.2, w.3) (row_new c.requires.sweepable c.loop-i.invariant c.loop-i-test.true w.if-number-t-eq-STATES.true) | else-number-t-eq-STATES w ↦ rw (w.1, w.2, w.3) (row_old c.requires.sweepable c.loop-i.invariant c.loop-i-test.true w.if-number-t-eq-STATES.false) ]
+loop-i-preserved c =
+    let d = c.requires.sweepable in
+    let r = c.loop-i.invariant in
+    elim c.if-number-t-eq-STATES.branch [
+      | then-number-t-eq-STATES w ↦ rw (w.order-is, w.number-is, w.count-is) (row_new d r c.loop-i-test.true w.if-number-t-eq-STATES.true)
+      | else-number-t-eq-STATES w ↦ rw (w.order-is, w.number-is, w.count-is) (row_old d r c.loop-i-test.true w.if-number-t-eq-STATES.false)
+    ]
 
 pub returns : goal.returns
 returns c = let r = c.loop-i.invariant in (r.in_rows, row_end c.requires.sweepable r (omega (arith, r.in_row)))
