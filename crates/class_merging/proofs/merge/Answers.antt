@@ -1,4 +1,4 @@
-use Prim.Native.Nat.{◌+◌, ◌-◌, ◌≤◌, ◌<◌}
+use Prim.Native.Nat.{◌+◌, ◌≤◌, ◌<◌}
 use mathlib.Core.Path.{◌≡◌}
 use native.Mathlib.Omega.{arith}
 use borrow.Author.Rules.{rules}
@@ -10,7 +10,7 @@ use Rattle.class_merging.proofs.merge.Goals as goal
 use Rattle.class_merging.proofs.merge.Goals.{else-c-count, then-c-count}
 
 pub loop-j-init : goal.loop-j-init
-loop-j-init c = let (d, e) = c.requires.sort_len in (search rules, merged_none _ _ _ _ _ _ _ d e)
+loop-j-init c = (search rules, merged_none _ _ _ _ _ _ _ c.requires.sort_len.0 c.requires.sort_len.1)
 
 pub bounds-column-j : goal.bounds-column-j
 bounds-column-j c = omega (arith, c.requires.kinds_le_byte_values.0, c.loop-j-test.true)
@@ -19,8 +19,8 @@ pub find-c-requires : goal.find-c-requires
 find-c-requires c =
     let few : c.loop-j.count ≤ class_limit = omega (arith, merged_few c.loop-j.invariant.1 c.loop-j.invariant.0 c.requires.kinds_le_byte_values.1, c.requires.states_in.sound.few_classes) in
     let v = c.loop-j.invariant in
-let b = c.requires.kinds_le_byte_values in
-record { states_in = c.requires.states_in; k_le_byte_values = (omega (arith, few), merged_inside v.1 v.0 b.1, b.1 c.loop-j.j c.loop-j-test.true (omega arith)) }
+    let b = c.requires.kinds_le_byte_values in
+    record { states_in = c.requires.states_in; k_le_byte_values = (omega (arith, few), merged_inside v.1 v.0 b.1, b.1 c.loop-j.j c.loop-j-test.true (omega arith)) }
 
 pub overflow_cast-sort : goal.overflow_cast-sort
 overflow_cast-sort c =
@@ -57,7 +57,10 @@ loop-j-preserved c =
     let u = class in
     let d : Distinct c.args.column.now (c.loop-j.j + 1) = λ i j g. c.requires.kinds_le_byte_values.2 i j (omega (arith, g, l)) in (
       search rules,
-      elim c.if-c-count.branch [ then-c-count w ↦ rw (w.1, w.2) (merged_new u d m f w.if-c-count.true (omega (arith, few))) | else-c-count w ↦ rw (w.1, w.2) (merged_old u d m f (omega (arith, f.most, w.if-c-count.false))) ],
+      elim c.if-c-count.branch [
+        | then-c-count w ↦ rw (w.leader-is, w.count-is) (merged_new u d m f w.if-c-count.true (omega (arith, few)))
+        | else-c-count w ↦ rw (w.leader-is, w.count-is) (merged_old u d m f (omega (arith, f.most, w.if-c-count.false)))
+      ],
     )
 
 pub returns : goal.returns
