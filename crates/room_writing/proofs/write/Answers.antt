@@ -9,23 +9,20 @@ write_marks-requires c = record { states_in = image_rows c.requires.planned; cel
 
 pub write_cells-requires : goal.write_cells-requires
 write_cells-requires c =
-    let start : tie.Start = c in
-    let g = (start).requires in record { states_in = image_rows g.0; k_le_class_limit = (g.0.classed.few, (λ i l z. g.0.classed.inside i l), search rules) }
+    let g = c.requires.planned in
+    record { states_in = image_rows g; k_le_class_limit = (g.classed.few, (λ i l z. g.classed.inside i l), search rules) }
 
 pub overflow_mul-n : goal.overflow_mul-n
 overflow_mul-n c =
-    let start : tie.Start = c in
-    omega (arith, table_few (start).requires.0)
+    omega (arith, table_few c.requires.planned)
 
 pub overflow_add-n-2 : goal.overflow_add-n-2
 overflow_add-n-2 c =
-    let start : tie.Start = c in
-    omega (arith, table_few (start).requires.0)
+    omega (arith, table_few c.requires.planned)
 
 pub fill-requires-2 : goal.fill-requires-2
 fill-requires-2 c =
-    let start : tie.Start = c in
-    (omega (arith, table_few (start).requires.0), search rules)
+    (omega (arith, table_few c.requires.planned), search rules)
 
 pub returns : goal.returns
 returns c = image_parts c.requires.planned c.write_head.ensures c.write_classes.ensures c.write_marks.ensures c.fill.ensures

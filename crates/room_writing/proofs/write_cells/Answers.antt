@@ -1,4 +1,3 @@
-use Prim.Native.Nat.{◌-◌}
 use mathlib.Core.Path.{◌≡◌}
 use native.Mathlib.Omega.{arith}
 use Rattle.room_writing.proofs.PlanTable.{cells_none, cells_fit, cells_more}
@@ -14,8 +13,15 @@ pub overflow_cast-order : goal.overflow_cast-order
 overflow_cast-order c = omega (arith, c.requires.states_in.inside c.loop-q.q c.loop-q-test.true (omega arith), c.requires.states_in.sound.few_states)
 
 pub write_row-requires : goal.write_row-requires
-write_row-requires c = let l = c.loop-q in let h = c.loop-q-test.true in
-record { sound_table = (c.requires.states_in.sound, c.requires.states_in.inside l.q h (omega arith)); k_le_class_limit = (c.requires.k_le_class_limit.0, c.requires.k_le_class_limit.1, omega (arith, cells_fit l.invariant h c.requires.states_in.few c.requires.k_le_class_limit.0, c.requires.k_le_class_limit.2, l.invariant.stored.size)) }
+write_row-requires c =
+    let l = c.loop-q in
+    let h = c.loop-q-test.true in
+    let s = c.requires.states_in in
+    let (k, i, w) = c.requires.k_le_class_limit in
+    record {
+      sound_table = (s.sound, s.inside l.q h (omega arith));
+      k_le_class_limit = (k, i, omega (arith, cells_fit l.invariant h s.few k, w, l.invariant.stored.size));
+    }
 
 pub overflow_add-at : goal.overflow_add-at
 overflow_add-at c = omega (arith, cells_fit c.loop-q.invariant c.loop-q-test.true c.requires.states_in.few c.requires.k_le_class_limit.0)
@@ -27,5 +33,7 @@ pub shape_of-to : goal.shape_of-to
 shape_of-to c = c.loop-q.invariant.stored.size
 
 pub returns : goal.returns
-returns c = let l = c.loop-q in let e : l.q ≡ c.args.n = omega (arith, l.invariant.in_rows) in
+returns c =
+    let l = c.loop-q in
+    let e : l.q ≡ c.args.n = omega (arith, l.invariant.in_rows) in
     rw (l.invariant.is_at, e) at l.invariant.stored
