@@ -1,4 +1,4 @@
-use Prim.Native.Nat.{ℕ, ◌-◌}
+use Prim.Native.Nat.{ℕ}
 use mathlib.Core.Bool.{true}
 use mathlib.Core.Path.{◌≡◌, refl, subst}
 use native.Mathlib.Omega.{arith}
@@ -11,10 +11,15 @@ pub loop-p-init : goal.loop-p-init
 loop-p-init c = (search rules, search rules, refl, linked_none _ _ _ _)
 
 pub loop-p-preserved : goal.loop-p-preserved
-loop-p-preserved c = (omega arith, omega (arith, c.requires), search rules, linked_more (omega arith) (omega (arith, c.requires)) c.loop-p.invariant.3 c.is_in-last.ensures c.put.ensures)
+loop-p-preserved c =
+    (omega arith, omega (arith, c.requires), search rules, linked_more (omega arith) (omega (arith, c.requires)) c.loop-p.invariant.3 c.is_in-last.ensures c.put.ensures)
 
 pub returns : goal.returns
-returns c = let a = c.args in let l = c.loop-p in let e : l.p ≡ a.to = omega arith in subst (λ (n : ℕ). Linked true a.from n a.after a.upto a.words.now l.words) e l.invariant.3
+returns c =
+    let a = c.args in
+    let l = c.loop-p in
+    let e : l.p ≡ a.to = omega arith in
+    subst (λ (n : ℕ). Linked true a.from n a.after a.upto a.words.now l.words) e l.invariant.3
 
 pub is_in-last-requires : goal.is_in-last-requires
 is_in-last-requires c = (omega (arith, c.requires), omega (arith, c.requires.1, c.loop-p.invariant.2))
