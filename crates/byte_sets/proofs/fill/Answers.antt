@@ -1,4 +1,3 @@
-use Prim.Native.Nat.{◌-◌}
 use mathlib.Core.Path.{refl}
 use native.Mathlib.Omega.{arith}
 use borrow.Author.Rules.{rules}
@@ -8,10 +7,11 @@ use Rattle.byte_sets.proofs.fill.Goals as goal
 pub loop-at-init : goal.loop-at-init
 loop-at-init c = (refl, filling_all _ c.next_leaf-at.ensures)
 
-pub single-requires : goal.single-requires
-single-requires c = let f = c.loop-at.invariant.1 in
-let p = c.requires.0 in
-record { some = filling_some f p (search rules); k_lt_position_limit = (filling_room f p (search rules), search rules) }
+pub single-requires-clause-some : goal.single-requires-clause-some
+single-requires-clause-some c = filling_some c.loop-at.invariant.1 c.requires.0 (search rules)
+
+pub single-requires-clause-k_lt_position_limit : goal.single-requires-clause-k_lt_position_limit
+single-requires-clause-k_lt_position_limit c = (filling_room c.loop-at.invariant.1 c.requires.0 (search rules), search rules)
 
 pub overflow_add-k : goal.overflow_add-k
 overflow_add-k c = omega (arith, filling_room c.loop-at.invariant.1 c.requires.0 (search rules))
