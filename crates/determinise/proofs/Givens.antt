@@ -16,7 +16,7 @@ use lib.Bits.{bit_or}
 use lib.ListN.{length, get_or, take, drop, length-drop}
 use lib.Seq.{length-take-le, drop_at, drop-length, get_or-drop}
 use Rattle.scope.specs.Limits.{byte_values, class_limit, position_limit, ways_at}
-use Rattle.scope.specs.Text.Re.{Re, size}
+use Rattle.scope.specs.Text.Re.{Re}
 use Rattle.scope.specs.Positions.Bits.{has, given, holders, final}
 use Rattle.scope.specs.Operations.Buffers.{TailKept, Scratch}
 use Rattle.scope.specs.Count.{Over}

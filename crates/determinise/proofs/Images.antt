@@ -13,7 +13,7 @@ use lib.Dec.{eqb}
 use lib.ListN.{get_or}
 use Rattle.scope.specs.Limits.{byte_values, state_limit, classes_at, marks_at, cells_at, ways_at, set_words}
 use Rattle.scope.specs.Bytes.{Bytes}
-use Rattle.scope.specs.Text.Re.{Re, size}
+use Rattle.scope.specs.Text.Re.{Re}
 use Rattle.scope.specs.Positions.Bits.{move, final, accepting}
 use Rattle.scope.specs.Operations.Buffers.{TailKept}
 use Rattle.scope.specs.Machines.Machine.{Machine, walk, run, Closed}
