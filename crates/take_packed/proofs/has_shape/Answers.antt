@@ -7,7 +7,7 @@ use Rattle.take_packed.proofs.Taken.{no_number, no_size, judged_not, judged}
 use Rattle.take_packed.proofs.has_shape.Goals as goal
 
 pub returns-then-form-size : goal.returns-then-form-size
-returns-then-form-size c = let bits = c.form_bits-bits in judged_not (no_size c.requires bits.result bits.ensures.0 c.if-form-size.true)
+returns-then-form-size c = let bits = c.form_bits-bits in judged_not (no_size c.requires bits.result bits.ensures.0 (λ e. absurd (omega arith)))
 
 pub returns-then-take-ne-FORM_NUMBER : goal.returns-then-take-ne-FORM_NUMBER
 returns-then-take-ne-FORM_NUMBER c = let number = c.take in judged_not (no_number c.requires number.result number.ensures.0 c.if-take-ne-FORM_NUMBER.true)
