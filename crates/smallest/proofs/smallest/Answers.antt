@@ -13,7 +13,11 @@ pub write_ways-requires : goal.write_ways-requires
 write_ways-requires c = (image_smallest c.make_plan.ensures.0 c.requires.room_bytes_in_bounds.0 c.write.ensures).0
 
 pub returns : goal.returns
-returns c = let m = c.make_plan.ensures in
+returns c =
+    let m = c.make_plan.ensures in
     let (s, k, e, t) = image_smallest m.0 c.requires.room_bytes_in_bounds.0 c.write.ensures in
     let w = c.write_ways.ensures in
-    ((written_canonical s w k, λ v g. e v g ∙ written_equal s w v g, tail_then (tail_within (omega arith) t) w.tail), m.1)
+    record {
+      canonical = (written_canonical s w k, λ v g. e v g ∙ written_equal s w v g, tail_then (tail_within (omega arith) t) w.tail);
+      tail_kept = m.1;
+    }
