@@ -2,7 +2,7 @@
 -- state; that no byte leads out of the former is computed, so a prefix is completable exactly if it leads to one of the latter.
 --   is_guided: the lost states and the ways home are right
 --   is_matched, matched_by: the test, and that the answer is the one
-use Prim.Native.Nat.{ℕ, zero, suc, ◌≤◌, ◌<◌}
+use Prim.Native.Nat.{ℕ, suc, ◌≤◌, ◌<◌}
 use mathlib.Core.Path.{◌≡◌, sym, ap, subst, subst₂, ◌∙◌}
 use mathlib.Core.Bool.{Bool, true, false, not, ◌&&◌, ◌||◌, cond, false≢true}
 use mathlib.Core.Logic.{◌⊎◌, inl, inr}

@@ -5,7 +5,7 @@
 --   positions l: the set of the positions l, as a number
 --   Row, Says: a row, and what it says; Each l: what each row of a list says
 --   rows: the rows of both
-use Rattle.std.specs.Prelude.{ℕ, suc, ◌+◌, ◌-◌, ◌*◌, ◌/◌, ◌%◌, ◌^◌, ◌≤◌, ◌<◌, ◌≡◌, Bool, true, false, cond, List, [], ◌∷◌, eqb, ltb, length, get_or}
+use Rattle.std.specs.Prelude.{ℕ, suc, ◌+◌, ◌-◌, ◌/◌, ◌%◌, ◌^◌, ◌≤◌, ◌<◌, ◌≡◌, Bool, true, false, cond, List, [], ◌∷◌, eqb, ltb, length, get_or}
 use Prim.Native.String.{String}
 use Rattle.std.specs.Int.Bits.{bit_or}
 use Rattle.scope.specs.Limits.{byte_values, classes_at, marks_at, cells_at, ways_at, room_bytes, no_way, word_bytes}
