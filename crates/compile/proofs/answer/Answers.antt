@@ -8,16 +8,16 @@ pub returns-then-text-gt-PATTERN : goal.returns-then-text-gt-PATTERN
 returns-then-text-gt-PATTERN c = refused (λ b w k. too_long c.requires (omega (arith, c.if-text-gt-PATTERN.true)) k)
 
 pub build-requires : goal.build-requires
-build-requires c = (told (record { lent = c.requires; short = omega (arith, c.if-text-gt-PATTERN.false) }) c.judge-judged.ensures c.enum_told-1.given.1, c.requires)
+build-requires c = (told (record { lent = c.requires; short = omega (arith, c.if-text-gt-PATTERN.false) }) c.judge-judged.ensures c.in-Faultless.is, c.requires)
 
 pub returns-in-Syntax : goal.returns-in-Syntax
-returns-in-Syntax c = told (record { lent = c.requires; short = omega (arith, c.if-text-gt-PATTERN.false) }) c.judge-judged.ensures c.judged-1.given.1
+returns-in-Syntax c = told (record { lent = c.requires; short = omega (arith, c.if-text-gt-PATTERN.false) }) c.judge-judged.ensures c.in-Syntax.is
 
 pub returns-in-Range : goal.returns-in-Range
-returns-in-Range c = told (record { lent = c.requires; short = omega (arith, c.if-text-gt-PATTERN.false) }) c.judge-judged.ensures c.judged-in-Range-1.given.1
+returns-in-Range c = told (record { lent = c.requires; short = omega (arith, c.if-text-gt-PATTERN.false) }) c.judge-judged.ensures c.in-Range.is
 
 pub returns-in-Depth : goal.returns-in-Depth
-returns-in-Depth c = told (record { lent = c.requires; short = omega (arith, c.if-text-gt-PATTERN.false) }) c.judge-judged.ensures c.judged-in-Depth-1.given.1
+returns-in-Depth c = told (record { lent = c.requires; short = omega (arith, c.if-text-gt-PATTERN.false) }) c.judge-judged.ensures c.in-Depth.is
 
 pub returns-in-Positions : goal.returns-in-Positions
-returns-in-Positions c = told (record { lent = c.requires; short = omega (arith, c.if-text-gt-PATTERN.false) }) c.judge-judged.ensures c.judged-in-Positions-1.given.1
+returns-in-Positions c = told (record { lent = c.requires; short = omega (arith, c.if-text-gt-PATTERN.false) }) c.judge-judged.ensures c.in-Positions.is

@@ -8,15 +8,17 @@ use Rattle.buffers.proofs.OneMore.{cleared_after}
 use Rattle.compile.proofs.compile.Goals as goal
 
 pub returns-then-not-is_lent : goal.returns-then-not-is_lent
-returns-then-not-is_lent c = no_room (c.is_lent.ensures.no (not-true _ c.if-not-is_lent.true-raw)) refl (record { bytes_kept = refl; words_kept = refl })
+returns-then-not-is_lent c = no_room (c.is_lent.ensures.no c.if-not-is_lent.true) refl (record { bytes_kept = refl; words_kept = refl })
 
 pub answer-answer-requires : goal.answer-answer-requires
-answer-answer-requires c = c.is_lent.ensures.yes (not-false _ c.if-not-is_lent.false-raw)
+answer-answer-requires c = c.is_lent.ensures.yes c.if-not-is_lent.false
 
 pub clear-requires : goal.clear-requires
-clear-requires c = let lent = c.is_lent.ensures.yes (not-false _ c.if-not-is_lent.false-raw) in
+clear-requires c =
+    let lent = c.is_lent.ensures.yes c.if-not-is_lent.false in
     record { bytes_long = omega (arith, lent.scratch.bytes_long, c.answer-answer.ensures.bytes_kept.size); words_long = omega (arith, lent.scratch.words_long, c.answer-answer.ensures.words_kept.size) }
 
 pub returns : goal.returns
-returns c = let a = c.answer-answer.ensures in
+returns c =
+    let a = c.answer-answer.ensures in
     a.cleared _ _ (cleared_after {n = scratch_bytes} {k = scratch_words} (omega arith) (omega arith) a.bytes_kept a.words_kept c.clear.ensures)
