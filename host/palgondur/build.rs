@@ -1,5 +1,5 @@
 //! Links `libpalgondur.a`: from the folder that PALGONDUR_ARCHIVE names, or else from the repository's
-//! `target/staticlib`. There it is made by `rt` if it is missing.
+//! `crates/palgondur/out`. There it is made by `rt` if it is missing.
 
 use std::env;
 use std::path::{Path, PathBuf};
@@ -27,9 +27,10 @@ fn folder() -> PathBuf {
     }
     let package = env::var_os("CARGO_MANIFEST_DIR").expect("cargo names the package's folder");
     let repository = Path::new(&package).join("../..");
-    let folder = repository.join("target/staticlib");
-    if !folder.join(ARCHIVE).is_file() && !made(&repository) {
-        stop("libpalgondur.a is missing: `rt staticlib palgondur`, at the top of the repository, makes it");
+    let library = repository.join("crates/palgondur");
+    let folder = library.join("out");
+    if !folder.join(ARCHIVE).is_file() && !made(&library) {
+        stop("libpalgondur.a is missing: `rt lib`, in crates/palgondur, makes it");
     }
     if env::var("CARGO_CFG_TARGET_ARCH").as_deref() != Ok("x86_64") {
         println!("cargo:warning=libpalgondur.a has x86-64 code: link it with --target x86_64-unknown-linux-gnu");
@@ -37,11 +38,11 @@ fn folder() -> PathBuf {
     folder
 }
 
-/// Whether `rt` is at hand and makes the archive.
-fn made(repository: &Path) -> bool {
+/// Whether `rt` is at hand and makes the archive, in the library's folder.
+fn made(library: &Path) -> bool {
     Command::new("rt")
-        .args(["staticlib", "palgondur"])
-        .current_dir(repository)
+        .arg("lib")
+        .current_dir(library)
         .status()
         .map_or(false, |status| status.success())
 }
