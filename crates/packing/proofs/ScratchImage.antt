@@ -3,7 +3,7 @@
 --   copied, with_ways: a room with the table of an image, and with its ways home
 --   adopted_canonical, adopted_form: it is the canonical room whose form the bytes are
 use Prim.Native.Nat.{ℕ, ◌≤◌}
-use mathlib.Core.Path.{◌≡◌, sym, ◌∙◌}
+use mathlib.Core.Path.{sym, ◌∙◌}
 use mathlib.Core.List.{List}
 use native.Mathlib.Omega.{arith}
 use lib.ListN.{length, get_or}
@@ -11,7 +11,7 @@ use Rattle.scope.specs.Limits.{ways_at, room_bytes}
 use Rattle.scope.specs.Machines.Room.{SoundTable, SameTables}
 use Rattle.scope.specs.Machines.Canonical.{CanonicalTable, Canonical}
 use Rattle.scope.specs.Packing.PackedForm.{FormOf}
-use Rattle.scope.specs.Operations.Buffers.{Written, TailKept}
+use Rattle.scope.specs.Operations.Buffers.{Written}
 use Rattle.scope.proofs.Machines.Moved.{table_moved, canonical_table_moved}
 use Rattle.take_packed.specs.FormImage.{Image, Imageless}
 use Rattle.take_packed.proofs.FormImage.{image_form, image_sound, image_canonical, formless, form_moved}

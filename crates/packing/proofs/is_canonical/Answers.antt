@@ -1,7 +1,6 @@
 -- A canonical room is sound, so a room that is not sound is not canonical.
 use native.Mathlib.Omega.{arith}
 use borrow.Author.Rules.{rules}
-use borrow.Author.Tests.{not-true, not-false}
 use Rattle.scope.proofs.Operations.Buffers.{tail_within}
 use Rattle.buffers.proofs.OneMore.{fails, all_kept}
 use Rattle.packing.proofs.is_canonical.Goals as goal

@@ -1,7 +1,6 @@
 -- The table decides whether it is looked at further.
 use native.Mathlib.Omega.{arith}
 use borrow.Author.Rules.{rules}
-use borrow.Author.Tests.{not-true, not-false}
 use Rattle.scope.proofs.Operations.Buffers.{tail_within}
 use Rattle.buffers.proofs.OneMore.{fails, all_kept}
 use Rattle.packing.proofs.is_canonical_table.Goals as goal

@@ -1,9 +1,6 @@
 -- What is lent is judged first, then the room, then the output; the scratch is cleared once the room is judged.
 use mathlib.Core.Path.{refl}
 use native.Mathlib.Omega.{arith}
-use borrow.Author.Tests.{not-true, not-false}
-use Rattle.scope.specs.Machines.Canonical.{Canonical}
-use Rattle.scope.specs.Operations.Buffers.{Lent}
 use Rattle.scope.specs.Operations.Pack.{no_room, no_form, no_output, packed}
 use Rattle.buffers.proofs.OneMore.{cleared_after, all_kept}
 use Rattle.packing.proofs.pack.Goals as goal

@@ -1,8 +1,6 @@
 -- What is lent is judged first; then the image that the fields make in the scratch; what was written there is cleared on every way out.
 use mathlib.Core.Path.{refl}
 use native.Mathlib.Omega.{arith}
-use borrow.Author.Tests.{not-true, not-false}
-use Rattle.scope.specs.Operations.Buffers.{Lent}
 use Rattle.scope.specs.Operations.Unpack.{no_room, no_form, unpacked}
 use Rattle.buffers.proofs.OneMore.{cleared_after, all_kept}
 use Rattle.packing.proofs.ScratchImage.{no_image, not_canonical, adopted_canonical, adopted_form}
