@@ -1,5 +1,5 @@
 -- What the passes leave, before the scratch is cleared.
---   ReadsText s bytes bytes' words words' r: r, the bytes and the words are what building is given for the tree of s (of which there is one: `one-tree`)
+--   ReadsText s bytes bytes' words words' r: r, the bytes and the words are what building is given for the tree of s (of which there is one: `one_tree`)
 --   AnswersCompile text room room' bytes bytes' words words' number place: once the scratch is cleared, this is what compiling answers and leaves
 use Rattle.std.specs.Prelude.{ℕ, ◌≤◌, List}
 use Rattle.scope.specs.Operations.Buffers.{TailKept, Cleared}

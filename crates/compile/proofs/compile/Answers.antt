@@ -1,7 +1,6 @@
 -- What is lent is judged first; after every other answer the scratch is cleared.
 use mathlib.Core.Path.{refl}
 use native.Mathlib.Omega.{arith}
-use borrow.Author.Tests.{not-true, not-false}
 use Rattle.scope.specs.Operations.Compile.{no_room}
 use Rattle.scope.specs.Limits.{scratch_bytes, scratch_words}
 use Rattle.buffers.proofs.OneMore.{cleared_after}
