@@ -19,7 +19,8 @@ pub are_sound-requires : goal.are_sound-requires
 are_sound-requires c = (omega arith, (c.is_lent.ensures.yes c.if-not-is_lent.false).rooms_long)
 
 pub returns-then-not-are_sound : goal.returns-then-not-are_sound
-returns-then-not-are_sound c = no_form (record { some = omega (arith, c.if-count-lt1.false); few = omega (arith, c.if-count-gt-FIELDS.false) }) (c.is_lent.ensures.yes c.if-not-is_lent.false)
+returns-then-not-are_sound c =
+    no_form (record { some = omega (arith, c.if-count-lt1.false); few = omega (arith, c.if-count-gt-FIELDS.false) }) (c.is_lent.ensures.yes c.if-not-is_lent.false)
     (λ s. c.are_sound.ensures.no c.if-not-are_sound.true (λ f h k. s f h)) refl
 
 pub bounds-form-0 : goal.bounds-form-0
@@ -35,4 +36,5 @@ pub returns : goal.returns
 returns c = let a = c.args in
     let l = c.is_lent.ensures.yes c.if-not-is_lent.false in
     opened (record { some = omega (arith, c.if-count-lt1.false); few = omega (arith, c.if-count-gt-FIELDS.false) }) l
-    (λ f h. c.are_sound.ensures.yes c.if-not-are_sound.false f h (omega arith)) (zeros_shown a.count a.form.now c.fill.ensures l.form_long) (zeros_tail a.count a.form.now c.fill.ensures)
+    (λ f h. c.are_sound.ensures.yes c.if-not-are_sound.false f h (omega arith))
+    (zeros_shown a.count a.form.now c.fill.ensures l.form_long) (zeros_tail a.count a.form.now c.fill.ensures)

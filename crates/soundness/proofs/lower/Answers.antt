@@ -1,4 +1,3 @@
-use Prim.Native.Nat.{◌<◌}
 use mathlib.Core.Path.{◌≡◌}
 use borrow.Author.Rules.{rules}
 use Rattle.scope.specs.Machines.Room.{states_of}
@@ -8,11 +7,9 @@ use Rattle.soundness.proofs.lower.Goals as goal
 pub loop-q-init : goal.loop-q-init
 loop-q-init c = (search rules, lowered_none c.requires.lowered.size, λ q h k. c.requires.lowered.each q h)
 
-pub of_four-requires : goal.of_four-requires
-of_four-requires c = let l = c.loop-q in let h : l.q < states_of c.args.room.now = search rules in record { sound_table = (c.requires.sound_table, c.head-machine.ensures.1, h); four_bound = c.requires.four_bound; least_over = l.invariant.2 l.q h (search rules) }
-
 pub loop-q-preserved : goal.loop-q-preserved
-loop-q-preserved c = let v = c.loop-q.invariant in (search rules, lowered_more c.of_four.result v.1 (search rules) c.of_four.ensures, unlowered_more _ _ _ _ c.loop-q.least c.of_four.result v.2)
+loop-q-preserved c = let v = c.loop-q.invariant in
+    (search rules, lowered_more c.of_four.result v.1 (search rules) c.of_four.ensures, unlowered_more _ _ _ _ c.loop-q.least c.of_four.result v.2)
 
 pub returns : goal.returns
 returns c = let e : c.loop-q.q ≡ states_of c.args.room.now = search rules in rw e at c.loop-q.invariant.1

@@ -8,18 +8,6 @@ use Rattle.soundness.specs.WaysJudged.{key_of}
 use Rattle.soundness.proofs.WaysJudged.{least_first, least_next}
 use Rattle.soundness.proofs.of_first.Goals as goal
 
-pub next_key-one-requires : goal.next_key-one-requires
-next_key-one-requires c = record { sound_table = (c.requires.sound_table.0, c.requires.sound_table.1); q_bound = (c.requires.sound_table.2, c.requires.i_nonzero.2 0 (omega (arith, c.requires.i_nonzero.0)) (omega arith)) }
-
-pub next_key-requires : goal.next_key-requires
-next_key-requires c = record { sound_table = (c.requires.sound_table.0, c.requires.sound_table.1); q_bound = (c.requires.sound_table.2, c.requires.i_nonzero.2 1 (omega (arith, c.requires.i_nonzero.0, c.if-i-eq1.false)) (omega arith)) }
-
-pub next_key-requires-2 : goal.next_key-requires-2
-next_key-requires-2 c = record { sound_table = (c.requires.sound_table.0, c.requires.sound_table.1); q_bound = (c.requires.sound_table.2, c.requires.i_nonzero.2 2 (omega (arith, c.requires.i_nonzero.0, c.if-i-eq1.false, c.if-i-eq2.false)) (omega arith)) }
-
-pub next_key-requires-3 : goal.next_key-requires-3
-next_key-requires-3 c = record { sound_table = (c.requires.sound_table.0, c.requires.sound_table.1); q_bound = (c.requires.sound_table.2, c.requires.i_nonzero.2 3 (omega (arith, c.requires.i_nonzero.0, c.if-i-eq1.false, c.if-i-eq2.false, c.if-i-eq3.false)) (omega arith)) }
-
 pub returns-then-i-eq1 : goal.returns-then-i-eq1
 returns-then-i-eq1 c =
     let Over : ℕ → ℕ → Type 0 = λ i r. LeastOver c.args.room.now (key_of c.args.room.now) c.args.list.now i c.args.q r in

@@ -8,8 +8,8 @@ use Rattle.way_writing.proofs.least.Goals as goal
 pub loop-i-init : goal.loop-i-init
 loop-i-init c = (search rules, least_none _ _ _ _)
 
-pub next_way-requires : goal.next_way-requires
-next_way-requires c = record { sound_table = (c.requires.sound_table, c.head-k.ensures.1); q_bound = (c.requires.q_bound, held_below c.requires.sound_table c.requires.held_classes c.loop-i.i c.loop-i-test.true (omega arith)) }
+pub next_way-requires-clause-q_bound : goal.next_way-requires-clause-q_bound
+next_way-requires-clause-q_bound c = let r = c.requires in (r.q_bound, held_below r.sound_table r.held_classes c.loop-i.i c.loop-i-test.true (omega arith))
 
 pub loop-i-preserved : goal.loop-i-preserved
 loop-i-preserved c = (search rules, rw (c.lesser-way.ensures, c.next_way.ensures) (least_more c.loop-i.invariant.1))

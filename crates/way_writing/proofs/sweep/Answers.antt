@@ -19,7 +19,8 @@ pub overflow_add-ways : goal.overflow_add-ways
 overflow_add-ways c = let l = c.loop-q in omega (arith, l.invariant.sinking.most (l.q - 1) (omega (arith, l.invariant.few)))
 
 pub loop-q-preserved-then-ahead-ways : goal.loop-q-preserved-then-ahead-ways
-loop-q-preserved-then-ahead-ways c = sweep_lowers (search rules) c.requires.held_classes c.least-ahead.ensures c.loop-q.invariant c.requires.sound_table c.if-ahead-ways.true
+loop-q-preserved-then-ahead-ways c =
+    sweep_lowers (search rules) c.requires.held_classes c.least-ahead.ensures c.loop-q.invariant c.requires.sound_table c.if-ahead-ways.true
 
 pub loop-q-preserved : goal.loop-q-preserved
 loop-q-preserved c = sweep_passes (search rules) c.requires.held_classes c.least-ahead.ensures c.loop-q.invariant (search rules)

@@ -11,8 +11,7 @@ loop-class-init c = (search rules, search rules, held_none _ _ c.requires.1)
 pub loop-class-preserved : goal.loop-class-preserved
 loop-class-preserved c = let v = c.loop-class.invariant in
     let f = c.find-found.ensures in
-    let few : c.loop-class.class < class_limit = search rules in
-    (
+    let few : c.loop-class.class < class_limit = search rules in (
       elim c.if-found-lt-BLOCKS.branch [ then-found-lt-BLOCKS w ↦ rw w.at-is f.inside | else-found-lt-BLOCKS w ↦ rw w.at-is v.0 ],
       search rules,
       elim c.if-found-lt-BLOCKS.branch [

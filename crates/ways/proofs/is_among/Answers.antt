@@ -10,8 +10,14 @@ pub loop-i-init : goal.loop-i-init
 loop-i-init c = (search rules, search rules, occurs_none _ _ _)
 
 pub loop-i-preserved : goal.loop-i-preserved
-loop-i-preserved c = let v = c.loop-i.invariant in
-    (search rules, search rules, elim c.if-room-i.branch [ then-room-i w ↦ rw w.found-is (occurs_more v.2 v.0 w.if-room-i.true) | else-room-i w ↦ rw w.found-is (occurs_not v.2 w.if-room-i.false) ])
+loop-i-preserved c = let v = c.loop-i.invariant in (
+  search rules,
+  search rules,
+  elim c.if-room-i.branch [
+    | then-room-i w ↦ rw w.found-is (occurs_more v.2 v.0 w.if-room-i.true)
+    | else-room-i w ↦ rw w.found-is (occurs_not v.2 w.if-room-i.false)
+  ],
+)
 
 pub returns : goal.returns
 returns c = let v = c.loop-i.invariant in

@@ -16,4 +16,5 @@ pub returns-then-greatest-gt0 : goal.returns-then-greatest-gt0
 returns-then-greatest-gt0 c = let a = c.args in fails (plain_zero a.form.now a.f c.greatest.ensures c.if-greatest-gt0.true)
 
 pub returns : goal.returns
-returns c = let a = c.args in plain_is a.form.now a.f (omega (arith, c.if-long-gt-TEXT.false)) c.greatest.ensures (omega (arith, c.if-greatest-gt0.false)) c.has_no_keys.ensures
+returns c = let a = c.args in
+    plain_is a.form.now a.f (omega (arith, c.if-long-gt-TEXT.false)) c.greatest.ensures (omega (arith, c.if-greatest-gt0.false)) c.has_no_keys.ensures
