@@ -1,5 +1,8 @@
 -- A set that was guessed or is found, or has no room, changes nothing; one that is new is stored at the end.
+use Prim.Native.Nat.{ℕ}
+use mathlib.Core.Path.{sym, ap, ◌∙◌}
 use native.Mathlib.Omega.{arith}
+use lib.ListN.{get_or}
 use Rattle.sets.specs.Value.{set_value}
 use Rattle.seats.proofs.Seats.{seated_guess, seated_none, seated_new, remainder_in, guess_none, guessed_there, guessed_none, guessed_new}
 use Rattle.seats.proofs.seat.Goals as goal
@@ -22,7 +25,7 @@ returns-then-is_at c = let g = c.is_at.ensures c.if-is_at.true in record { seate
 pub find-i-requires : goal.find-i-requires
 find-i-requires c =
     let d = c.requires in
-    record { n_le_state_limit = (d.0, d.1); fact = λ e. guess_none d.2 _ (rw c.remainder-at.ensures at e) }
+    record { n_le_state_limit = (d.0, d.1); fact = λ e. guess_none d.2 _ (ap (λ (x : ℕ). get_or c.args.guesses.now x 0) (sym c.remainder-at.ensures) ∙ e) }
 
 pub overflow_cast-guesses : goal.overflow_cast-guesses
 overflow_cast-guesses c = omega (arith, c.find-i.ensures.most, c.requires.0)
