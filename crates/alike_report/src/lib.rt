@@ -8,8 +8,7 @@ ghost use Rattle.scope.specs.Operations.Compare.{CompareLent};
 ghost use Rattle.put_lines.specs.Printing.{side_of};
 ghost use Rattle.alike_report.specs.Report.{Compiling, Puts, Reports};
 
-use put_lines::LINES;
-use put_lines::Side;
+use put_lines::{LINES, Side};
 use scope::Machine;
 
 // Compiles one side into its room.
