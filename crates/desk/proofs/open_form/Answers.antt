@@ -1,7 +1,6 @@
 -- The count is judged, then the lengths, then the machines; then the count is stored, and zeros after it.
-use mathlib.Core.Path.{refl, ◌∙◌}
+use mathlib.Core.Path.{refl}
 use native.Mathlib.Omega.{arith}
-use lib.ListN.{length-set}
 use Rattle.desk_rules.specs.Open.{no_fields, no_room, no_form, opened}
 use Rattle.desk.proofs.OpenedForm.{zeros_shown, zeros_tail}
 use Rattle.desk.proofs.open_form.Goals as goal
@@ -15,22 +14,10 @@ returns-then-count-gt-FIELDS c = no_fields (λ f. omega (arith, f.few)) refl
 pub returns-then-not-is_lent : goal.returns-then-not-is_lent
 returns-then-not-is_lent c = no_room (record { some = omega arith; few = omega arith }) (c.is_lent.ensures.no c.if-not-is_lent.true) refl
 
-pub are_sound-requires : goal.are_sound-requires
-are_sound-requires c = (omega arith, (c.is_lent.ensures.yes c.if-not-is_lent.false).rooms_long)
-
 pub returns-then-not-are_sound : goal.returns-then-not-are_sound
 returns-then-not-are_sound c =
     no_form (record { some = omega (arith, c.if-count-lt1.false); few = omega (arith, c.if-count-gt-FIELDS.false) }) (c.is_lent.ensures.yes c.if-not-is_lent.false)
     (λ s. c.are_sound.ensures.no c.if-not-are_sound.true (λ f h k. s f h)) refl
-
-pub bounds-form-0 : goal.bounds-form-0
-bounds-form-0 c = omega (arith, (c.is_lent.ensures.yes c.if-not-is_lent.false).form_long)
-
-pub fill-requires : goal.fill-requires
-fill-requires c = (omega arith, omega (arith, (c.is_lent.ensures.yes c.if-not-is_lent.false).form_long, length-set c.args.form.now 0 c.args.count))
-
-pub shape_of-form : goal.shape_of-form
-shape_of-form c = let a = c.args in c.fill.ensures.size ∙ length-set a.form.now 0 a.count
 
 pub returns : goal.returns
 returns c = let a = c.args in
