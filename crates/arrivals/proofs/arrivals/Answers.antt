@@ -36,7 +36,8 @@ numbers-requires c =
     let d = c.requires.sweepable in
     let w = c.loop-q.invariant.1 in
     record {
-      n_le_state_limit = rw c.head.ensures.0 (d.sound.few_states, omega (arith, swept_few d.sound w, d.sound.few_states), (λ t h g. d.parts.inside t h), numbers_fit d.sound w);
+      n_le_state_limit = rw c.head.ensures.0
+          (d.sound.few_states, omega (arith, swept_few d.sound w, d.sound.few_states), (λ t h g. d.parts.inside t h), numbers_fit d.sound w);
       into_len = c.requires.order_len.1;
     }
 

@@ -11,7 +11,9 @@ pub bounds-leader-c : goal.bounds-leader-c
 bounds-leader-c c = omega (arith, c.requires.k_le_byte_values.0, c.loop-c-test.true)
 
 pub are_alike-requires : goal.are_alike-requires
-are_alike-requires c = record { states_in = c.requires.states_in; u_bound = (c.requires.k_le_byte_values.1 c.loop-c.c c.loop-c-test.true (omega arith), c.requires.k_le_byte_values.2) }
+are_alike-requires c =
+    let b = c.requires.k_le_byte_values in
+    record { states_in = c.requires.states_in; u_bound = (b.1 c.loop-c.c c.loop-c-test.true (omega arith), b.2) }
 
 pub returns-then-are_alike : goal.returns-then-are_alike
 returns-then-are_alike c = found_here (search rules) (c.are_alike.ensures.yes c.if-are_alike.true) c.loop-c.invariant.1

@@ -30,9 +30,12 @@ pub returns-then-part-y : goal.returns-then-part-y
 returns-then-part-y c = fails (λ d. c.if-part-y.true (rw (c.step-y.ensures.0, c.step-z.ensures.0) (d _ c.loop-i-test.true c.loop-i.invariant.0)))
 
 pub loop-i-preserved : goal.loop-i-preserved
-loop-i-preserved c = let s = c.args in
+loop-i-preserved c =
+    let s = c.args in
     let next = (both s.a.now s.b.now).next in
-    let l = c.loop-i in (search rules, below_more (λ (j : ℕ). row_width ≤ j → OnePart s.part.now (next s.p (get_or s.least.now j 0)) (next s.q (get_or s.least.now j 0))) l.i l.invariant.1 (λ m. rw (← c.step-y.ensures.0, ← c.step-z.ensures.0) c.if-part-y.false))
+    let l = c.loop-i in
+    let led : ℕ → Type 0 = λ j. row_width ≤ j → OnePart s.part.now (next s.p (get_or s.least.now j 0)) (next s.q (get_or s.least.now j 0)) in
+    (search rules, below_more led l.i l.invariant.1 (λ m. rw (← c.step-y.ensures.0, ← c.step-z.ensures.0) c.if-part-y.false))
 
 pub returns : goal.returns
 returns c = holds (λ j h m. c.loop-i.invariant.1 j (omega arith) m)

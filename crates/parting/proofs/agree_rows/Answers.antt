@@ -1,31 +1,30 @@
-use Prim.Native.Nat.{ℕ, ◌%◌, ◌<◌}
+use Prim.Native.Nat.{ℕ}
 use mathlib.Core.Path.{◌≡◌}
 use native.Mathlib.Omega.{arith}
 use borrow.Author.Rules.{rules}
 use lib.ListN.{get_or}
 use Rattle.buffers.proofs.OneMore.{holds, each_more, each_not}
-use Rattle.two_rooms.specs.Side.{both_limit, both}
+use Rattle.two_rooms.specs.Side.{both}
 use Rattle.parting.specs.Named.{OnePart}
-use Rattle.parting.specs.CellRows.{row_width, cell_values}
+use Rattle.parting.specs.CellRows.{row_width}
 use Rattle.parting.proofs.Cells.{cell_first, cell_rest}
 use Rattle.parting.proofs.agree_rows.Goals as goal
 use Rattle.parting.proofs.agree_rows.Goals.{else-part-x, then-part-x}
 
 pub loop-i-init : goal.loop-i-init
-loop-i-init c = (search rules, c.requires.cell_rows.row _ (omega (arith, c.requires.p_le_q)), c.requires.cell_rows.row _ (omega arith), holds (λ i h l. absurd (omega arith)))
+loop-i-init c =
+    let r = c.requires.cell_rows.row in
+    (search rules, r _ (omega (arith, c.requires.p_le_q)), r _ (omega arith), holds (λ i h l. absurd (omega arith)))
 
 pub bounds-part-x : goal.bounds-part-x
-bounds-part-x c =
-    let states : (c.loop-i.x % cell_values < both_limit) × (c.loop-i.y % cell_values < both_limit) = let v = c.loop-i.invariant in ((cell_first v.1 c.loop-i-test.true).1, (cell_first v.2 c.loop-i-test.true).1) in
-    omega (arith, states)
+bounds-part-x c = omega (arith, (cell_first c.loop-i.invariant.1 c.loop-i-test.true).1)
 
 pub bounds-part-y : goal.bounds-part-y
-bounds-part-y c =
-    let states : (c.loop-i.x % cell_values < both_limit) × (c.loop-i.y % cell_values < both_limit) = let v = c.loop-i.invariant in ((cell_first v.1 c.loop-i-test.true).1, (cell_first v.2 c.loop-i-test.true).1) in
-    omega (arith, states)
+bounds-part-y c = omega (arith, (cell_first c.loop-i.invariant.2 c.loop-i-test.true).1)
 
 pub loop-i-preserved : goal.loop-i-preserved
-loop-i-preserved c = let s = c.args in
+loop-i-preserved c =
+    let s = c.args in
     let v = c.loop-i.invariant in
     let t = c.loop-i-test.true in
     let next = (both s.a.now s.b.now).next in
@@ -35,7 +34,10 @@ loop-i-preserved c = let s = c.args in
       search rules,
       cell_rest v.1 t,
       cell_rest v.2 t,
-      elim c.if-part-x.branch [ then-part-x w ↦ rw w.same-is (each_not led (omega arith) v.3 (λ e. w.if-part-x.true (rw (← y, ← z) at e))) | else-part-x w ↦ rw w.same-is (each_more led (omega arith) v.3 (rw (← y, ← z) w.if-part-x.false)) ],
+      elim c.if-part-x.branch [
+        | then-part-x w ↦ rw w.same-is (each_not led (omega arith) v.3 (λ e. w.if-part-x.true (rw (← y, ← z) at e)))
+        | else-part-x w ↦ rw w.same-is (each_more led (omega arith) v.3 (rw (← y, ← z) w.if-part-x.false))
+      ],
     )
 
 pub returns : goal.returns

@@ -26,9 +26,11 @@ pub bounds-link-q : goal.bounds-link-q
 bounds-link-q c = omega (arith, c.requires.0, c.requires.2, c.loop-q.invariant.2.size, c.loop-q-test.true)
 
 pub loop-q-preserved : goal.loop-q-preserved
-loop-q-preserved c = let d = c.requires in
+loop-q-preserved c =
+    let d = c.requires in
     let l = c.loop-q-test.true in
-    (search rules, stored_more (omega arith) (omega (arith, d.0, d.1, l)) refl c.loop-q.invariant.1, stored_more (omega arith) (omega (arith, d.0, d.2, l)) refl c.loop-q.invariant.2)
+    let v = c.loop-q.invariant in
+    (search rules, stored_more (omega arith) (omega (arith, d.0, d.1, l)) refl v.1, stored_more (omega arith) (omega (arith, d.0, d.2, l)) refl v.2)
 
 pub returns : goal.returns
 returns c =

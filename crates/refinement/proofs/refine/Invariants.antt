@@ -8,7 +8,9 @@ use Rattle.refinement.proofs.RoundTurns.{After}
 use Rattle.refinement.proofs.refine.Given as goal
 
 abbrev pub invariant-loop-from : goal.invariant-loop-from
-invariant-loop-from l = (length l.part ≡ both_limit) × (length l.next ≡ both_limit) × (length l.parent ≡ both_limit) × (length l.born ≡ both_limit) × After (side l.a l.b l.n) l.part l.parent l.born l.r × Steady (both l.a l.b).next l.part l.n l.touched
+invariant-loop-from l = (length l.part ≡ both_limit) × (length l.next ≡ both_limit) × (length l.parent ≡ both_limit) × (length l.born ≡ both_limit)
+    × After (side l.a l.b l.n) l.part l.parent l.born l.r
+    × Steady (both l.a l.b).next l.part l.n l.touched
     × ((q : ℕ) → q < l.n → get_or l.next q 0 ≡ get_or l.part q 0) × (length l.link ≡ both_limit) × ((x : ℕ) → get_or l.link x 0 ≡ 0)
 
 abbrev pub decreases-loop-from : goal.decreases-loop-from

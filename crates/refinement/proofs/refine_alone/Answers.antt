@@ -12,7 +12,14 @@ pub columns-requires : goal.columns-requires
 columns-requires c = record { sound_table = c.requires.sound_table; count_le_byte_values = least_bytes c.kinds-bytes.ensures; column_value = c.requires.column_value.0 }
 
 pub refine-rounds-requires : goal.refine-rounds-requires
-refine-rounds-requires c = record { first_states = rw c.head-machine.ensures.0 (side_left _ _ c.requires.sound_table c.requires.sound_table); kinds = c.kinds-bytes.ensures; part_value = (c.requires.column_value.1, refl, refl); both_limit_in_bounds = c.requires.column_value.2 }
+refine-rounds-requires c =
+    let s = c.requires.sound_table in
+    record {
+      first_states = rw c.head-machine.ensures.0 (side_left _ _ s s);
+      kinds = c.kinds-bytes.ensures;
+      part_value = (c.requires.column_value.1, refl, refl);
+      both_limit_in_bounds = c.requires.column_value.2;
+    }
 
 pub returns : goal.returns
 returns c = record {

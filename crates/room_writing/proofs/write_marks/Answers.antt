@@ -1,3 +1,4 @@
+use Prim.Native.Nat.{ℕ}
 use mathlib.Core.Path.{◌≡◌, refl}
 use native.Mathlib.Omega.{arith}
 use borrow.Author.Rules.{rules}
@@ -19,7 +20,9 @@ pub overflow_add-to : goal.overflow_add-to
 overflow_add-to c = omega (arith, c.requires.states_in.inside c.loop-q.q c.loop-q-test.true (omega arith), c.requires.states_in.sound.few_states)
 
 pub bounds-from-order : goal.bounds-from-order
-bounds-from-order c = omega (arith, c.requires.states_in.inside c.loop-q.q c.loop-q-test.true (omega arith), c.requires.states_in.sound.few_states, c.requires.states_in.sound.long)
+bounds-from-order c =
+    let d = c.requires.states_in in
+    omega (arith, d.inside c.loop-q.q c.loop-q-test.true (omega arith), d.sound.few_states, d.sound.long)
 
 pub overflow_add-to-in-loop-q : goal.overflow_add-to-in-loop-q
 overflow_add-to-in-loop-q c = omega (arith, c.requires.states_in.few)
@@ -28,7 +31,9 @@ pub bounds-to-q : goal.bounds-to-q
 bounds-to-q c = omega (arith, c.requires.states_in.few, c.requires.cells_at_in_bounds, c.loop-q.invariant.1.size, c.loop-q-test.true)
 
 pub loop-q-preserved : goal.loop-q-preserved
-loop-q-preserved c = (search rules, stored_next (λ q. mark_of c.args.from.now (get_or c.args.order.now q 0)) (omega (arith, c.requires.states_in.few, c.requires.cells_at_in_bounds, c.loop-q-test.true)) refl c.loop-q.invariant.1)
+loop-q-preserved c =
+    let mark = λ (q : ℕ). mark_of c.args.from.now (get_or c.args.order.now q 0) in
+    (search rules, stored_next mark (omega (arith, c.requires.states_in.few, c.requires.cells_at_in_bounds, c.loop-q-test.true)) refl c.loop-q.invariant.1)
 
 pub shape_of-to : goal.shape_of-to
 shape_of-to c = c.loop-q.invariant.1.size

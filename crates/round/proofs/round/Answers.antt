@@ -1,22 +1,26 @@
 use mathlib.Core.Path.{◌≡◌, ◌∙◌}
-use Prim.Native.Nat.{◌+◌, ◌≤◌, ◌<◌}
+use Prim.Native.Nat.{ℕ, ◌+◌, ◌≤◌, ◌<◌}
+use mathlib.Core.List.{List}
 use native.Mathlib.Omega.{arith}
 use lib.ListN.{get_or}
-use Rattle.two_rooms.specs.Side.{both_limit, both}
+use Rattle.two_rooms.specs.Side.{both_limit, both, FirstStates}
 use Rattle.round.proofs.Passes.{passed_none, passed_stays, passed_joined, passed_opened}
 use Rattle.signs.proofs.Signs.{stayed_none, stayed_still, stayed_moved, seen_none, seen_past}
 use Rattle.round.proofs.Gaps.{Come, come_as, come_gap}
 use Rattle.round.proofs.round.Goals as goal
 use Rattle.round.proofs.round.Goals.{then-p-h+then-shift, then-p-h+else-shift, else-p-h}
 
+-- there are not more states than two rooms have
+states : {a b : List ℕ} {n : ℕ} → FirstStates a b n → n ≤ both_limit
+states d = omega (arith, d.few, d.left.few_states, d.right.few_states)
+
 pub looked-q-requires : goal.looked-q-requires
 looked-q-requires c =
-    let few : c.args.n ≤ both_limit = let d = c.requires.first_states in omega (arith, d.few, d.left.few_states, d.right.few_states) in
-    record { at_le_n = (omega arith, few); named = c.requires.named; seen = seen_none _ _ }
+    record { at_le_n = (omega arith, states c.requires.first_states); named = c.requires.named; seen = seen_none _ _ }
 
 pub loop-q-init : goal.loop-q-init
 loop-q-init c =
-    let few : c.args.n ≤ both_limit = let d = c.requires.first_states in omega (arith, d.few, d.left.few_states, d.right.few_states) in
+    let few = states c.requires.first_states in
     let a = c.args in
     let e = c.looked-q.ensures in
     let (l, h, k) = e.lower_bound in (
@@ -29,25 +33,37 @@ loop-q-init c =
 
 pub walk-p-requires : goal.walk-p-requires
 walk-p-requires c =
-    let l = c.loop-q in let h = c.loop-q-test.true in
-    record { sound_table = (c.requires.first_states.left, c.requires.first_states.right); each_kind = c.requires.each_kind; cell_rows = record { long = omega (arith, h, c.requires.cell_rows.long); row = λ q k. c.requires.cell_rows.row q (omega (arith, h, k)) }; q_bound = (omega (arith, h, c.requires.first_states.few), c.requires.named l.q h, l.invariant.1 h); chain = l.invariant.3.passed.chain }
+    let l = c.loop-q in
+    let h = c.loop-q-test.true in
+    let d = c.requires.first_states in
+    let r = c.requires.cell_rows in
+    record {
+      sound_table = (d.left, d.right);
+      each_kind = c.requires.each_kind;
+      cell_rows = record { long = omega (arith, h, r.long); row = λ q k. r.row q (omega (arith, h, k)) };
+      q_bound = (omega (arith, h, d.few), c.requires.named l.q h, l.invariant.1 h);
+      chain = l.invariant.3.passed.chain;
+    }
 
 pub shift-requires : goal.shift-requires
 shift-requires c =
-    let few : c.args.n ≤ both_limit = let d = c.requires.first_states in omega (arith, d.few, d.left.few_states, d.right.few_states) in
-    let low : (c.loop-q.q < both_limit) × (get_or c.args.part.now c.loop-q.q 0 < c.loop-q.q) = (omega (arith, c.loop-q-test.true, few), c.loop-q.invariant.1 c.loop-q-test.true) in
-    let z = low in (z.0, omega (arith, z), omega (arith, z, c.walk-p.ensures.low))
+    let few = states c.requires.first_states in
+    let l : get_or c.args.part.now c.loop-q.q 0 < c.loop-q.q = c.loop-q.invariant.1 c.loop-q-test.true in
+    (omega (arith, few, c.loop-q-test.true), omega (arith, few, c.loop-q-test.true), omega (arith, few, c.loop-q-test.true, c.walk-p.ensures.low))
 
 pub looked-q-requires-in-loop-q : goal.looked-q-requires-in-loop-q
 looked-q-requires-in-loop-q c =
-    let few : c.args.n ≤ both_limit = let d = c.requires.first_states in omega (arith, d.few, d.left.few_states, d.right.few_states) in
-    let low : (c.loop-q.q < both_limit) × (get_or c.args.part.now c.loop-q.q 0 < c.loop-q.q) = (omega (arith, c.loop-q-test.true, few), c.loop-q.invariant.1 c.loop-q-test.true) in
-    record { at_le_n = (omega (arith, c.loop-q-test.true), few); named = c.requires.named; seen = seen_past c.loop-q.invariant.2 low.1 }
+    record {
+      at_le_n = (omega (arith, c.loop-q-test.true), states c.requires.first_states);
+      named = c.requires.named;
+      seen = seen_past c.loop-q.invariant.2 (c.loop-q.invariant.1 c.loop-q-test.true);
+    }
 
 pub loop-q-preserved : goal.loop-q-preserved
 loop-q-preserved c =
-    let few : c.args.n ≤ both_limit = let d = c.requires.first_states in omega (arith, d.few, d.left.few_states, d.right.few_states) in
-    let low : (c.loop-q.q < both_limit) × (get_or c.args.part.now c.loop-q.q 0 < c.loop-q.q) = (omega (arith, c.loop-q-test.true, few), c.loop-q.invariant.1 c.loop-q-test.true) in
+    let few = states c.requires.first_states in
+    let low : (c.loop-q.q < both_limit) × (get_or c.args.part.now c.loop-q.q 0 < c.loop-q.q) =
+    (omega (arith, c.loop-q-test.true, few), c.loop-q.invariant.1 c.loop-q-test.true) in
     let a = c.args in
     let i = c.if-p-h in
     let g = c.requires.next_len in

@@ -7,8 +7,12 @@ use Rattle.signs.proofs.note.Goals as goal
 use Rattle.signs.proofs.note.Goals.{else-y-last, then-y-last}
 
 pub loop-c-preserved : goal.loop-c-preserved
-loop-c-preserved c = let v = c.loop-c.invariant in
-    elim c.if-y-last.branch [ then-y-last w ↦ rw (w.from-is, w.last-is) (noting_set v (search rules) (search rules) (search rules)) | else-y-last w ↦ rw (w.from-is, w.last-is) (noting_again v (search rules) (search rules) (search rules) w.if-y-last.false) ]
+loop-c-preserved c =
+    let v = c.loop-c.invariant in
+    elim c.if-y-last.branch [
+      | then-y-last w ↦ rw (w.from-is, w.last-is) (noting_set v (search rules) (search rules) (search rules))
+      | else-y-last w ↦ rw (w.from-is, w.last-is) (noting_again v (search rules) (search rules) (search rules) w.if-y-last.false)
+    ]
 
 pub returns : goal.returns
 returns c =

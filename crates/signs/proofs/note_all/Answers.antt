@@ -12,7 +12,12 @@ loop-q-init c = (search rules, (record { long = omega arith; row = λ q h. absur
 pub write_row-requires : goal.write_row-requires
 write_row-requires c =
     let v = c.loop-q.invariant.1 in
-    record { sound_table = (c.requires.first_states.0.left, c.requires.first_states.0.right); q_bound = (omega (arith, c.loop-q-test.true, c.requires.first_states.0.few), c.requires.first_states.1); both_limit_in_bounds = (omega (arith, v.1.size, c.requires.both_limit_in_bounds.0), v.0) }
+    let (d, w) = c.requires.first_states in
+    record {
+      sound_table = (d.left, d.right);
+      q_bound = (omega (arith, c.loop-q-test.true, d.few), w);
+      both_limit_in_bounds = (omega (arith, v.1.size, c.requires.both_limit_in_bounds.0), v.0);
+    }
 
 pub note-requires : goal.note-requires
 note-requires c =
@@ -25,14 +30,19 @@ note-requires-else-q-s c =
     record { sound_table = (d.right, omega (arith, c.loop-q-test.true, d.few), omega (arith, d.left.few_states, d.right.few_states)); from_len = search rules }
 
 pub loop-q-preserved : goal.loop-q-preserved
-loop-q-preserved c = let d = c.requires.first_states.0 in
+loop-q-preserved c =
+    let d = c.requires.first_states.0 in
     let v = c.loop-q.invariant in
     let s = c.head-s.ensures.0 in (
       search rules,
       (c.write_row.ensures.0, tail_then v.1.1 c.write_row.ensures.1),
       elim c.if-q-s.branch [
-        | then-q-s w ↦ rw w.from-is (w.note.ensures.from_len_2, sources_left d w.sign.ensures v.2.1 (rw s at w.if-q-s.true) w.note.ensures.cells_noted)
-        | else-q-s w ↦ rw w.from-is (w.note-else-q-s.ensures.from_len_2, sources_right d w.sign-else-q-s.ensures v.2.1 (rw s at w.if-q-s.false) (rw s at w.note-else-q-s.ensures.cells_noted))
+        | then-q-s w ↦
+            let e = w.note.ensures in
+            rw w.from-is (e.from_len_2, sources_left d w.sign.ensures v.2.1 (rw s at w.if-q-s.true) e.cells_noted)
+        | else-q-s w ↦
+            let e = w.note-else-q-s.ensures in
+            rw w.from-is (e.from_len_2, sources_right d w.sign-else-q-s.ensures v.2.1 (rw s at w.if-q-s.false) (rw s at e.cells_noted))
       ],
     )
 

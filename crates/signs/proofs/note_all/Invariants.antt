@@ -9,7 +9,8 @@ use Rattle.signs.specs.Signs.{Sources}
 use Rattle.signs.proofs.note_all.Given as goal
 
 abbrev pub invariant-loop-q : goal.invariant-loop-q
-invariant-loop-q l = (l.q ≤ l.n) × (CellRows (both l.a l.b).next l.least l.rows l.q × TailKept both_limit l.initial.rows l.rows) × ((length l.from ≡ both_limit) × Sources (both l.a l.b).next l.q l.from)
+invariant-loop-q l = (l.q ≤ l.n) × (CellRows (both l.a l.b).next l.least l.rows l.q × TailKept both_limit l.initial.rows l.rows)
+    × ((length l.from ≡ both_limit) × Sources (both l.a l.b).next l.q l.from)
 
 abbrev pub decreases-loop-q : goal.decreases-loop-q
 decreases-loop-q l = l.n - l.q

@@ -8,14 +8,20 @@ pub refine_alone-kinds-requires : goal.refine_alone-kinds-requires
 refine_alone-kinds-requires c = let d = c.requires in record { sound_table = d.0; column_value = (refl, refl, d.1) }
 
 pub arrivals-n-requires : goal.arrivals-n-requires
-arrivals-n-requires c = let r = c.refine_alone-kinds.ensures.refined_alone in record { sweepable = ready c.requires.0 r.bytes.are r.columns r.parts; order_len = (refl, refl) }
+arrivals-n-requires c =
+    let r = c.refine_alone-kinds.ensures.refined_alone in
+    record { sweepable = ready c.requires.0 r.bytes.are r.columns r.parts; order_len = (refl, refl) }
 
 pub merge-k-requires : goal.merge-k-requires
 merge-k-requires c =
     let s = c.requires.0 in
     let r = c.refine_alone-kinds.ensures.refined_alone in
     let k = r.bytes.are in
-    record { states_in = rows s k r.columns r.parts c.arrivals-n.ensures; kinds_le_byte_values = (k.few, (ready s k r.columns r.parts).columns, distinct k r.columns); sort_len = (refl, refl) }
+    record {
+      states_in = rows s k r.columns r.parts c.arrivals-n.ensures;
+      kinds_le_byte_values = (k.few, (ready s k r.columns r.parts).columns, distinct k r.columns);
+      sort_len = (refl, refl);
+    }
 
 pub of_bytes-class-requires : goal.of_bytes-class-requires
 of_bytes-class-requires c = c.requires.0

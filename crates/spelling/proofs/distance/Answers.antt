@@ -22,10 +22,14 @@ climb-requires-in-loop-low c = let d = c.requires in
     climbs d.machine _ _ _ _ d.refined _ _ d.few d.right (omega (arith, c.loop-low.invariant.1.within))
 
 pub loop-low-preserved-then-climb : goal.loop-low-preserved-then-climb
-loop-low-preserved-then-climb c = let l = c.loop-low in (search rules, halve_low _ _ _ _ _ _ _ _ _ _ _ l.invariant.1 (search rules) c.climb.ensures c.climb-in-loop-low.ensures c.if-climb.true)
+loop-low-preserved-then-climb c =
+    let l = c.loop-low in
+    (search rules, halve_low _ _ _ _ _ _ _ _ _ _ _ l.invariant.1 (search rules) c.climb.ensures c.climb-in-loop-low.ensures c.if-climb.true)
 
 pub loop-low-preserved : goal.loop-low-preserved
-loop-low-preserved c = let l = c.loop-low in (search rules, halve_high _ _ _ _ _ _ _ _ _ _ _ l.invariant.1 (search rules) c.climb.ensures c.climb-in-loop-low.ensures c.if-climb.false)
+loop-low-preserved c =
+    let l = c.loop-low in
+    (search rules, halve_high _ _ _ _ _ _ _ _ _ _ _ l.invariant.1 (search rules) c.climb.ensures c.climb-in-loop-low.ensures c.if-climb.false)
 
 pub returns : goal.returns
 returns c = let e : c.loop-low.low ≡ c.loop-low.high = omega arith in rw (← e) at c.loop-low.invariant.1

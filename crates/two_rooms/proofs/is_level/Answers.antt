@@ -20,7 +20,8 @@ pub bounds-room-y-in-loop-y : goal.bounds-room-y-in-loop-y
 bounds-room-y-in-loop-y c = omega (arith, c.requires.0.long, c.requires.2, c.loop-y-test.true)
 
 pub loop-y-preserved : goal.loop-y-preserved
-loop-y-preserved c = let m = c.args.room.now in
+loop-y-preserved c =
+    let m = c.args.room.now in
     let x = c.args.x in
     let y = c.loop-y.y in
     let l = c.loop-y.invariant in
@@ -28,7 +29,10 @@ loop-y-preserved c = let m = c.args.room.now in
     let at : get_or m (classes_at - 1 + y) 0 ≡ get_or m (classes_at + (y - 1)) 0 = ap (λ (i : ℕ). get_or m i 0) (omega (arith, l.0, c.requires.1)) in (
       search rules,
       search rules,
-      elim c.if-room-y.branch [ then-room-y w ↦ rw w.level-is (each_not as_before l.0 l.2 (λ e. w.if-room-y.true (e ∙ sym at))) | else-room-y w ↦ rw w.level-is (each_more as_before l.0 l.2 (w.if-room-y.false ∙ at)) ],
+      elim c.if-room-y.branch [
+        | then-room-y w ↦ rw w.level-is (each_not as_before l.0 l.2 (λ e. w.if-room-y.true (e ∙ sym at)))
+        | else-room-y w ↦ rw w.level-is (each_more as_before l.0 l.2 (w.if-room-y.false ∙ at))
+      ],
     )
 
 pub returns : goal.returns

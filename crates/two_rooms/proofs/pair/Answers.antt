@@ -15,4 +15,7 @@ pub overflow_cast-result-2 : goal.overflow_cast-result-2
 overflow_cast-result-2 c = omega (arith, c.type_inv.b (classes_at + c.args.x))
 
 pub overflow_add-result-3 : goal.overflow_add-result-3
-overflow_add-result-3 c = omega (arith, class_small _ c.args.x c.requires.sound_table.0 c.requires.x_lt_byte_values, class_small _ c.args.x c.requires.sound_table.1 c.requires.x_lt_byte_values)
+overflow_add-result-3 c =
+    let s = c.requires.sound_table in
+    let h = c.requires.x_lt_byte_values in
+    omega (arith, class_small _ c.args.x s.0 h, class_small _ c.args.x s.1 h)
