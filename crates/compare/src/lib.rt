@@ -57,16 +57,13 @@ fn rounds_alone(room: &[u8], words: &mut [u64]) -> usize
     refinement::refine_alone(room, &mut column, &mut part, words).rounds
 }
 
-// The answer for two sound rooms.
-fn answer(left: &[u8], right: &[u8], word: &mut [u8], words: &mut [u64]) -> Compared
+// The answer for two sound rooms whose states are refined together.
+fn refined(left: &[u8], right: &[u8], word: &mut [u8], words: &mut [u64]) -> Compared
     requires sound { Sound left.now × Sound right.now }
     requires word_bytes_in_bounds { (word_bytes ≤ length word.old) × (both_limit ≤ length words.old) }
     ensures answers_compare { AnswersCompare left.now right.now word.old word.new (compared_number result) (compared_length result) (compared_rounds result) }
     ensures tail_kept { TailKept both_limit words.old words.new }
 {
-    if are_twins(left, right) {
-        return Compared::Same(rounds_alone(left, words));
-    }
     let s = room::head(left).states;
     let n = s + room::head(right).states;
     let kinds = two_rooms::kinds(left, right, Machine::BYTES);
@@ -90,6 +87,19 @@ fn answer(left: &[u8], right: &[u8], word: &mut [u8], words: &mut [u64]) -> Comp
     let long = spelling::distance(&part, &parent, &born, 0, s, rounds);
     spelling::spell(left, right, &part, &parent, &born, &kinds.least, long, word);
     Compared::Separated(long, rounds)
+}
+
+// The answer for two sound rooms.
+fn answer(left: &[u8], right: &[u8], word: &mut [u8], words: &mut [u64]) -> Compared
+    requires sound { Sound left.now × Sound right.now }
+    requires word_bytes_in_bounds { (word_bytes ≤ length word.old) × (both_limit ≤ length words.old) }
+    ensures answers_compare { AnswersCompare left.now right.now word.old word.new (compared_number result) (compared_length result) (compared_rounds result) }
+    ensures tail_kept { TailKept both_limit words.old words.new }
+{
+    if are_twins(left, right) {
+        return Compared::Same(rounds_alone(left, words));
+    }
+    refined(left, right, word, words)
 }
 
 // Compares two rooms: Same, or Separated, and then the string room begins with the string that tells the machines apart.
