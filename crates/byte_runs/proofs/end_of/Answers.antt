@@ -10,7 +10,9 @@ use Rattle.byte_runs.proofs.Ends.{left_start, left_from, left_none, left_end, be
 use Rattle.byte_runs.proofs.end_of.Goals as goal
 
 pub loop-rest-init : goal.loop-rest-init
-loop-rest-init c = let fit : Fits w64 (get_or c.args.ends (c.args.b / 64) 0) = search rules in (search rules, search rules, λ x h k. absurd (omega arith), left_from _ _ fit.fits)
+loop-rest-init c =
+    let fit : Fits w64 (get_or c.args.ends (c.args.b / 64) 0) = search rules in
+    (search rules, search rules, λ x h k. absurd (omega arith), left_from _ _ fit.fits)
 
 pub loop-rest-preserved : goal.loop-rest-preserved
 loop-rest-preserved c =

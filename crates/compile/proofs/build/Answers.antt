@@ -9,7 +9,8 @@ use Rattle.compile.proofs.build.Goals as goal
 pub smallest-requires : goal.smallest-requires
 smallest-requires c = record {
   sound_table = (image c.requires.0 c.read-shape.ensures c.build-built.ensures c.in-Done.is).sound;
-  room_bytes_in_bounds = (c.requires.1.room_long, omega (arith, c.requires.1.scratch.words_long, c.read-shape.ensures.words_kept.size, c.build-built.ensures.words_kept.size));
+  room_bytes_in_bounds =
+      (c.requires.1.room_long, omega (arith, c.requires.1.scratch.words_long, c.read-shape.ensures.words_kept.size, c.build-built.ensures.words_kept.size));
 }
 
 pub returns-in-Done : goal.returns-in-Done
@@ -23,8 +24,9 @@ returns-in-Done c =
 pub returns-in-Classes : goal.returns-in-Classes
 returns-in-Classes c =
     let p = c.requires in
+    let many = outcome p.0 c.read-shape.ensures c.build-built.ensures c.in-Classes.is in
     answered c.read-shape.ensures c.build-built.ensures (omega arith) (all_kept _ 0)
-    (λ b w k. many_classes (record { lent = p.1; short = p.0.short }) p.0.sized (outcome p.0 c.read-shape.ensures c.build-built.ensures c.in-Classes.is) (record { kept = refl; cleared = k }))
+    (λ b w k. many_classes (record { lent = p.1; short = p.0.short }) p.0.sized many (record { kept = refl; cleared = k }))
 
 pub returns-in-States : goal.returns-in-States
 returns-in-States c =

@@ -15,7 +15,8 @@ answer-answer-requires c = c.is_lent.ensures.yes c.if-not-is_lent.false
 pub clear-requires : goal.clear-requires
 clear-requires c =
     let lent = c.is_lent.ensures.yes c.if-not-is_lent.false in
-    record { bytes_long = omega (arith, lent.scratch.bytes_long, c.answer-answer.ensures.bytes_kept.size); words_long = omega (arith, lent.scratch.words_long, c.answer-answer.ensures.words_kept.size) }
+    let kept = c.answer-answer.ensures in
+    record { bytes_long = omega (arith, lent.scratch.bytes_long, kept.bytes_kept.size); words_long = omega (arith, lent.scratch.words_long, kept.words_kept.size) }
 
 pub returns : goal.returns
 returns c =

@@ -7,7 +7,10 @@ use Rattle.compile.proofs.read.Goals as goal
 pub read-requires : goal.read-requires
 read-requires c = record {
   faultless = c.requires.0;
-  clear = (clear_filled byte_sets (omega (arith, c.requires.1.bytes_long)) c.fill.ensures, clear_filled read_words (omega (arith, c.requires.1.words_long)) c.fill_words.ensures);
+  clear = (
+    clear_filled byte_sets (omega (arith, c.requires.1.bytes_long)) c.fill.ensures,
+    clear_filled read_words (omega (arith, c.requires.1.words_long)) c.fill_words.ensures,
+  );
 }
 
 pub returns : goal.returns

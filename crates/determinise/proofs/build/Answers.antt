@@ -36,7 +36,8 @@ pub shape_of-words : goal.shape_of-words
 shape_of-words c = c.determinise.ensures.words.size
 
 pub returns-in-Few : goal.returns-in-Few
-returns-in-Few c = built _ _ _ c.group-groups.result.map c.requires.0 c.requires.1 c.group-groups.ensures c.in-Few.is c.class_masks-masks.ensures c.finals.ensures c.determinise.ensures
+returns-in-Few c =
+    built _ _ _ c.group-groups.result.map c.requires.0 c.requires.1 c.group-groups.ensures c.in-Few.is c.class_masks-masks.ensures c.finals.ensures c.determinise.ensures
 
 pub returns-in-Many : goal.returns-in-Many
 returns-in-Many c = built_classes _ _ _ c.group-groups.result.map c.requires.0 c.requires.1 c.group-groups.ensures c.in-Many.is

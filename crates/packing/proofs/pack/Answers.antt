@@ -34,7 +34,8 @@ pub returns-then-form-form_length : goal.returns-then-form-form_length
 returns-then-form-form_length c =
     let lent = c.is_lent.ensures.yes c.if-not-is_lent.false in
     let canonical = c.is_canonical-canonical.ensures.0.yes c.if-not-canonical.false in
-    no_output lent canonical (omega (arith, c.form_length.ensures)) refl (cleared_after (omega arith) (omega arith) (all_kept _ 0) c.is_canonical-canonical.ensures.1 c.clear.ensures)
+    no_output lent canonical (omega (arith, c.form_length.ensures)) refl
+    (cleared_after (omega arith) (omega arith) (all_kept _ 0) c.is_canonical-canonical.ensures.1 c.clear.ensures)
 
 pub pack_fields-requires : goal.pack_fields-requires
 pack_fields-requires c =
@@ -46,4 +47,5 @@ returns c =
     let lent = c.is_lent.ensures.yes c.if-not-is_lent.false in
     let canonical = c.is_canonical-canonical.ensures.0.yes c.if-not-canonical.false in
     let (n, p) = c.pack_fields.ensures in
-    packed lent canonical n (omega (arith, c.form_length.ensures, n)) p (cleared_after (omega arith) (omega arith) (all_kept _ 0) c.is_canonical-canonical.ensures.1 c.clear.ensures)
+    packed lent canonical n (omega (arith, c.form_length.ensures, n)) p
+    (cleared_after (omega arith) (omega arith) (all_kept _ 0) c.is_canonical-canonical.ensures.1 c.clear.ensures)

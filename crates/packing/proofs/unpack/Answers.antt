@@ -23,7 +23,8 @@ clear-requires c =
 pub returns-then-not-unpack_fields : goal.returns-then-not-unpack_fields
 returns-then-not-unpack_fields c =
     let lent = c.is_lent.ensures.yes c.if-not-is_lent.false in
-    no_form lent (no_image (c.unpack_fields.ensures.no c.if-not-unpack_fields.true)) refl (cleared_after (omega arith) (omega arith) c.unpack_fields.ensures.tail (all_kept _ 0) c.clear.ensures)
+    no_form lent (no_image (c.unpack_fields.ensures.no c.if-not-unpack_fields.true)) refl
+    (cleared_after (omega arith) (omega arith) c.unpack_fields.ensures.tail (all_kept _ 0) c.clear.ensures)
 
 pub is_canonical_table-requires : goal.is_canonical_table-requires
 is_canonical_table-requires c =
@@ -62,4 +63,5 @@ returns c =
     let (s, k) = d.yes c.if-not-is_canonical_table.false in
     let l = lent.room_long in
     let a = c.adopt.ensures in
-    unpacked lent (adopted_canonical image s k l a) (adopted_form image s k l a) a.tail (cleared_after (omega arith) (omega arith) c.unpack_fields.ensures.tail w c.clear-2.ensures)
+    unpacked lent (adopted_canonical image s k l a) (adopted_form image s k l a) a.tail
+    (cleared_after (omega arith) (omega arith) c.unpack_fields.ensures.tail w c.clear-2.ensures)

@@ -15,9 +15,13 @@ loop-w-init c = (search rules, c.none-union.ensures ∙ sym (joined_none _))
 
 pub loop-w-preserved : goal.loop-w-preserved
 loop-w-preserved c =
-    let l = c.loop-w in let a = c.args in
-    let e : 64 * l.w + 64 ≡ 64 * (l.w + 1) = omega arith in
-    (search rules, c.follows_word-union.ensures (set_value a.s.words) (word_bits a.s.words l.w (omega arith)) l.invariant.1 ∙ ap (joined (follow_of a.words.now (set_value a.s.words))) e)
+    let l = c.loop-w in
+    let a = c.args in
+    let e : 64 * l.w + 64 ≡ 64 * (l.w + 1) = omega arith in (
+      search rules,
+      c.follows_word-union.ensures (set_value a.s.words) (word_bits a.s.words l.w (omega arith)) l.invariant.1
+          ∙ ap (joined (follow_of a.words.now (set_value a.s.words))) e,
+    )
 
 pub returns : goal.returns
 returns c = let e : c.loop-w.w ≡ set_words = omega arith in rw e at c.loop-w.invariant.1

@@ -10,7 +10,8 @@ pub row-counted-requires : goal.row-counted-requires
 row-counted-requires c = (search rules, c.loop-q.invariant.1)
 
 pub returns-in-Many : goal.returns-in-Many
-returns-in-Many c = filled_many c.requires.row_fits c.loop-q.invariant.0 c.loop-q-test.true c.load.ensures c.follows-union.ensures c.row-counted.ensures.row_answer c.in-Many.is
+returns-in-Many c =
+    filled_many c.requires.row_fits c.loop-q.invariant.0 c.loop-q-test.true c.load.ensures c.follows-union.ensures c.row-counted.ensures.row_answer c.in-Many.is
 
 pub loop-q-preserved : goal.loop-q-preserved
 loop-q-preserved c = (

@@ -53,4 +53,7 @@ pub returns-else-i-n : goal.returns-else-i-n
 returns-else-i-n c =
     let d = c.requires in
     let f = c.find-i.ensures in
-    record { seated = seated_none _ _ _ _ f (λ e. absurd (c.if-i-n.false e)); guessed = rw c.remainder-at.ensures (guessed_none d.2 d.0 _ _ f.most (λ e. absurd (c.if-i-n.false e))) }
+    record {
+      seated = seated_none _ _ _ _ f (λ e. absurd (c.if-i-n.false e));
+      guessed = rw c.remainder-at.ensures (guessed_none d.2 d.0 _ _ f.most (λ e. absurd (c.if-i-n.false e)));
+    }

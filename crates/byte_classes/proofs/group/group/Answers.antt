@@ -9,13 +9,19 @@ pub loop-p-init : goal.loop-p-init
 loop-p-init c = (search rules, group_none c.args.bytes.now _)
 
 pub split-counted-requires : goal.split-counted-requires
-split-counted-requires c = record { byte_set_in_bounds = search rules; last_byte_value = (c.requires.runs_of.last, c.loop-p.invariant.1.size, group_below c.loop-p.invariant.1) }
+split-counted-requires c = record {
+  byte_set_in_bounds = search rules;
+  last_byte_value = (c.requires.runs_of.last, c.loop-p.invariant.1.size, group_below c.loop-p.invariant.1);
+}
 
 pub returns-in-Many : goal.returns-in-Many
 returns-in-Many c = group_many c.args.bytes.now _ _ (end_like c.requires.runs_of) c.loop-p-test.true c.loop-p.invariant.1 _ c.split-counted.ensures c.in-Many.is
 
 pub loop-p-preserved : goal.loop-p-preserved
-loop-p-preserved c = (search rules, group_next c.args.bytes.now _ _ (end_like c.requires.runs_of) c.loop-p-test.true c.loop-p.invariant.1 _ c.split-counted.ensures _ c.in-Few.is)
+loop-p-preserved c = (
+  search rules,
+  group_next c.args.bytes.now _ _ (end_like c.requires.runs_of) c.loop-p-test.true c.loop-p.invariant.1 _ c.split-counted.ensures _ c.in-Few.is,
+)
 
 pub spread-requires : goal.spread-requires
 spread-requires c = (c.requires.runs_of.last, c.loop-p.invariant.1.size)

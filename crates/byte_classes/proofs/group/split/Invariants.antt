@@ -7,7 +7,9 @@ use Rattle.byte_classes.proofs.Classes.{Splitting, SplittingWord}
 use Rattle.byte_classes.proofs.group.split.Given as goal
 
 abbrev pub invariant-loop-rest : goal.invariant-loop-rest
-invariant-loop-rest l = (old : List ℕ) → Splitting l.bytes l.p l.ends old l.initial.names l.initial.map l.initial.k l.w → SplittingWord l.bytes l.p l.ends old l.names l.map l.k l.w l.rest
+invariant-loop-rest l =
+    (old : List ℕ) → Splitting l.bytes l.p l.ends old l.initial.names l.initial.map l.initial.k l.w
+    → SplittingWord l.bytes l.p l.ends old l.names l.map l.k l.w l.rest
 
 abbrev pub decreases-loop-rest : goal.decreases-loop-rest
 decreases-loop-rest l = l.rest

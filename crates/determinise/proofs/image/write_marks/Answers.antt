@@ -15,7 +15,11 @@ pub bounds-image-i : goal.bounds-image-i
 bounds-image-i c = omega (arith, c.loop-i.invariant.2.size)
 
 pub loop-i-preserved : goal.loop-i-preserved
-loop-i-preserved c = (search rules, search rules, stored_more (omega arith) c.loop-i.invariant.0 (c.mark.ensures ∙ ap (mark_by (set_value c.args.finals.words)) c.load.ensures) c.loop-i.invariant.2)
+loop-i-preserved c = (
+  search rules,
+  search rules,
+  stored_more (omega arith) c.loop-i.invariant.0 (c.mark.ensures ∙ ap (mark_by (set_value c.args.finals.words)) c.load.ensures) c.loop-i.invariant.2,
+)
 
 pub shape_of-image : goal.shape_of-image
 shape_of-image c = c.loop-i.invariant.2.size

@@ -8,7 +8,9 @@ use Rattle.determinise.specs.Image.{mark_by}
 use Rattle.determinise.proofs.image.write_marks.Given as goal
 
 abbrev pub invariant-loop-i : goal.invariant-loop-i
-invariant-loop-i l = (marks_at ≤ l.i) × (l.i ≤ marks_at + l.n) × Stored l.initial.image l.image marks_at l.i (λ j. mark_by (set_value l.finals.words) (reached_set l.words (j - marks_at)))
+invariant-loop-i l =
+    (marks_at ≤ l.i) × (l.i ≤ marks_at + l.n)
+    × Stored l.initial.image l.image marks_at l.i (λ j. mark_by (set_value l.finals.words) (reached_set l.words (j - marks_at)))
 
 abbrev pub decreases-loop-i : goal.decreases-loop-i
 decreases-loop-i l = marks_at + l.n - l.i
