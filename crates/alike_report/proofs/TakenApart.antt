@@ -1,5 +1,5 @@
 -- From the answers, taken apart, to what the lines are of.
---   compiling-as, comparing-as: what was answered, by its number and values
+--   compiling_as, comparing_as: what was answered, by its number and values
 --   short: the string is no longer than a string room
 use Prim.Native.Nat.{ℕ, ◌≤◌}
 use mathlib.Core.Path.{◌≡◌, refl}
@@ -17,21 +17,21 @@ use Rattle.put_lines.specs.Printing.{outcome}
 use Rattle.alike_report.specs.Report.{Compiling, compiling, Comparing, comparing}
 
 -- a side
-pub compiling-as :
+pub compiling_as :
     {text before room bytes bytes' words words' : List ℕ} {a : Side} {number place : ℕ} → Lent before bytes words
     → Compiles text before room bytes bytes' words words' number place → a.number ≡ number → a.place ≡ place → a.states ≡ states_of room
     → a.classes ≡ classes_of room → Compiling text room a
-compiling-as {text} {before} {room} {bytes} {bytes'} {words} {words'} {a} l c n p s k = compiling l compiles s k
+compiling_as {text} {before} {room} {bytes} {bytes'} {words} {words'} {a} l c n p s k = compiling l compiles s k
   where
     compiles : Compiles text before room bytes bytes' words words' a.number a.place
     compiles = rw (n, p) c
 
 -- the comparison
-pub comparing-as :
+pub comparing_as :
     {left right before word bytes bytes' words words' : List ℕ} {number count rounds i n r : ℕ} → CompareLent left right before bytes words
     → Compares left right before word bytes bytes' words words' number count rounds → i ≡ number → n ≡ count → r ≡ rounds
     → Comparing left right (outcome i r (take n word))
-comparing-as {left} {right} {before} {word} {bytes} {bytes'} {words} {words'} {count = count} {i = i} {r = r} l c e n f = comparing l compares (rw n refl)
+comparing_as {left} {right} {before} {word} {bytes} {bytes'} {words} {words'} {count = count} {i = i} {r = r} l c e n f = comparing l compares (rw n refl)
   where
     compares : Compares left right before word bytes bytes' words words' i count r
     compares = rw (e, f) c

@@ -18,7 +18,7 @@ use Rattle.scope.specs.Limits.{class_limit, state_limit, cells_at, ways_at, room
 use Rattle.scope.specs.Machines.Room.{states_of, classes_of, cell_of, machine, Below, SoundTable}
 use Rattle.buffers.proofs.Numbered.{numbered_none, numbered_old, numbered_new, numbered_few, numbered_fewer}
 use Rattle.refinement.specs.Refined.{PartsOf}
-use Rattle.room.proofs.HeadAndParts.{cell-known}
+use Rattle.room.proofs.HeadAndParts.{cell_known}
 use Rattle.smallest_plan.proofs.TableRows.{flat}
 use Rattle.arrivals.specs.Swept.{leads, placed, Sweepable, Back, Forth, Earlier, PlacesSwept, Numbers}
 
@@ -50,7 +50,7 @@ module _ {a part column order number : List ℕ} {kinds count q i : ℕ} (s : So
   is_place l = rw ((flat kinds q i m).0, (flat kinds q i m).1) refl
 
   read_in : cell_of a (get_or order q 0) (get_or column i 0) < states_of a
-  read_in = (cell-known s (get_or order q 0) (get_or column i 0) (w.back q h).inside k).1
+  read_in = (cell_known s (get_or order q 0) (get_or column i 0) (w.back q h).inside k).1
 
   pub lead_in : leads a part order q (get_or column i 0) < states_of a
   lead_in = f.inside _ read_in
@@ -222,7 +222,7 @@ module _ {a part column order number : List ℕ} {kinds count q i row : ℕ} (d 
     lead_below = rw (← is_lead) (lead_in d.sound d.parts r.swept r.in_rows h column_in)
 
     cell : (cells_at + (row + get_or column i 0) < ways_at) × (get_or a (cells_at + (row + get_or column i 0)) 0 < states_of a)
-    cell = rw r.is_row (cell-known d.sound (get_or order q 0) (get_or column i 0) (r.swept.back q r.in_rows).inside column_in)
+    cell = rw r.is_row (cell_known d.sound (get_or order q 0) (get_or column i 0) (r.swept.back q r.in_rows).inside column_in)
 
     pub row_place : RowPlace a part column number row i
     row_place = record {

@@ -17,7 +17,7 @@ use Rattle.scope.specs.Machines.Room.{machine}
 use Rattle.matching.proofs.Completable.{died}
 use Rattle.telling.specs.Expected.{CouldStand, CanFollow}
 use Rattle.telling.proofs.Marks.{marks_moved}
-use Rattle.telling.proofs.Expecting.{typed-stands}
+use Rattle.telling.proofs.Expecting.{typed_stands}
 use Rattle.entry_form.specs.EntryForm.{closed_of, text_of}
 use Rattle.entry_form.specs.Text.{IsDead}
 use Rattle.entry_form.specs.ValidForm.{OpenText}
@@ -74,7 +74,7 @@ module _ {rooms form form' : List ℕ} {key : ℕ} (known : (i : ℕ) → get_or
   -- so what could have stood there keeps its own text completable
   pub own_stands : (d : IsDead (open_room rooms form) (typed_text form key)) (b : ℕ) → b < byte_values
       → Completable (machine (open_room rooms form)) (text_of form (closed_of form) ++ (b ∷ [])) ↔ CouldStand (machine (open_room rooms form)) (typed_text form key) d.place b
-  own_stands d = typed-stands (text_of form (closed_of form)) key (text_bytes form (closed_of form) known) (died d.matched).1 (own_place_lem d)
+  own_stands d = typed_stands (text_of form (closed_of form)) key (text_bytes form (closed_of form) known) (died d.matched).1 (own_place_lem d)
 
   -- and its marks are what is told
   pub own_passed : {e f : List ℕ} → CanFollow (machine (open_room rooms form)) (text_of form (closed_of form)) f → Passes rooms form key e f DEAD_BYTE

@@ -2,7 +2,7 @@
 --   appended_none, appended_byte: no byte, and one
 --   appended_as: the same bytes, said otherwise
 --   appended_join: what is put at the place behind what was put
---   appended-text: a text that is copied to the place
+--   appended_text: a text that is copied to the place
 --   appended_hexes, appended_shown: a word that is put up to its byte i: one byte more, and no more bytes
 --   appended_one: the buffer and the place are determined
 --   room_behind: room for two is, behind the first, room for the second
@@ -48,10 +48,10 @@ appended_join {a} {b} {c} {k} {l} {at} {m} {r} p q =
     shift s = drop-drop (length l) m s ∙ ap (λ n. drop n s) (sym q.place)
 
 -- a text that is copied to the part from `at` up to `next`
-pub appended-text :
+pub appended_text :
     (old text part : List ℕ) (at next : ℕ) → next ≡ at + length text → next ≤ length old → Written (length text) (λ i. get_or text i 0) (take (next - at) (drop at old)) part
     → Appended old (put_mid at (next - at) old part) at text next
-appended-text old text part at next e h w =
+appended_text old text part at next e h w =
     let size : length part ≡ next - at = w.size ∙ mid_len at next old h in
     let whole : part ≡ text = ext_get_or 0 part text (omega arith) (λ i l. w.inside i (omega arith)) in
     record {

@@ -77,7 +77,7 @@ pub fn is_live(room: &[u8], q: usize) -> bool
 // The length of the shortest prefix that leads to a dead state, where the text does.
 fn first_dead(room: &[u8], text: &[u8]) -> usize
     requires sound { Sound room.now }
-    requires fact { Live (machine room.now) (run (machine room.now) 0 text.now) → ⊥ }
+    requires dead { Live (machine room.now) (run (machine room.now) 0 text.now) → ⊥ }
     ensures { DeadAt (machine room.now) text.now result }
 {
     let mut q: usize = 0;

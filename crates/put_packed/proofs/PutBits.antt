@@ -1,6 +1,6 @@
 -- One more field of a form on its way out: held behind the bits in hand, or the upper eight of them go out.
 --   filled_ready, filled_here: there is room for w bits more; what is out is kept from here on
---   put_few, put-many: a field that fills no byte, and one that does
+--   put_few, put_many: a field that fills no byte, and one that does
 --   due: a part of a room is next
 --   passes_none, passes_more: no field of it is put, one more is; passes_here, passes_ready: what is out then, and there is room for the next
 use Prim.Native.Nat.{ℕ, ◌+◌, ◌*◌, ◌/◌, ◌%◌, ◌^◌, ◌≤◌, ◌<◌}
@@ -53,10 +53,10 @@ module _ {b : ℕ → ℕ} {old out : List ℕ} {p : ℕ} {s : Filling} (f : Bit
   }
 
   -- it fills one, and leaves k bits
-  pub put-many :
+  pub put_many :
       (w x r k : ℕ) → r ≡ s.held * 2 ^ w + x → s.count + w ≡ 8 + k → k < 8 → s.at < length old → Holds b p w x
       → BitsOut b old (set out s.at (r / 2 ^ k)) (p + w) (record { held = r % 2 ^ k; count = k; at = s.at + 1 })
-  put-many w x r k e t l o h =
+  put_many w x r k e t l o h =
       let whole : ℕ = bits_byte b s.at in
       let rest : ℕ = value k (from b (s.at * 8 + 8)) in
       let small : rest < 2 ^ k = value_lt k (from b (s.at * 8 + 8)) (λ j l. f.bit (s.at * 8 + 8 + j)) in

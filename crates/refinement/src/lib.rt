@@ -22,8 +22,8 @@ pub const STATES: usize = two_rooms::STATES;
 // Copies the parts of the first n states, and makes their links 0.
 fn adopt(from: &[u16; STATES], part: &mut [u16; STATES], link: &mut [u16; STATES], n: usize)
     requires { (n ≤ both_limit) × (length part.old ≡ both_limit) × (length link.old ≡ both_limit) }
-    ensures written { Written n (λ q. get_or from.now q 0) part.old part.new }
-    ensures written_2 { Written n (λ q. 0) link.old link.new }
+    ensures part_written { Written n (λ q. get_or from.now q 0) part.old part.new }
+    ensures link_written { Written n (λ q. 0) link.old link.new }
 {
     let mut q: usize = 0;
     while q < n {

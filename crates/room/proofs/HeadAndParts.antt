@@ -1,8 +1,8 @@
 -- The head is the two bytes at the start. A table is sound if its head and its five parts are; then every state has its cells.
 --   head_set: the two bytes stored are the head; head_is, head_same: a room that begins with its bytes has it; the same bytes, the same head
 --   PartsBelow m n k: the first four parts are below their limits
---   sound-last, sound_not: what the last part decides, where the others are, and where they are not
---   cell-known: the cell for a state and a class is in the room, and holds a state
+--   sound_last, sound_not: what the last part decides, where the others are, and where they are not
+--   cell_known: the cell for a state and a class is in the room, and holds a state
 --   CellAt m q k c, cell_at: the same, by the number k of classes that was read
 use Prim.Native.Nat.{ℕ, ◌+◌, ◌*◌, ◌≤◌, ◌<◌}
 use mathlib.Core.Bool.{Bool, false}
@@ -38,10 +38,10 @@ PartsBelow m n k =
     ((Below m classes_at marks_at k × Below m marks_at (marks_at + n) 2) × Below m (marks_at + n) cells_at 1) × Below m cells_at (cells_at + n * k) n
 
 -- the last part decides, where the others are below their limits
-pub sound-last :
+pub sound_last :
     {r : Bool} {m : List ℕ} {n k : ℕ} → room_bytes ≤ length m → n ≡ states_of m → k ≡ classes_of m → (1 ≤ n) × (n ≤ state_limit) × (1 ≤ k) × (k ≤ class_limit)
     → PartsBelow m n k → Decides r (AtMost m (cells_at + n * k) ways_at 0) → Decides r (SoundTable m)
-sound-last {r} {m} l e f = rw (e, f) decided
+sound_last {r} {m} l e f = rw (e, f) decided
   where
     decided : (1 ≤ states_of m) × (states_of m ≤ state_limit) × (1 ≤ classes_of m) × (classes_of m ≤ class_limit) → PartsBelow m (states_of m) (classes_of m)
         → Decides r (AtMost m (cells_at + states_of m * classes_of m) ways_at 0) → Decides r (SoundTable m)
@@ -66,10 +66,10 @@ pub sound_not : {r : Bool} {m : List ℕ} {n k : ℕ} → n ≡ states_of m → 
 sound_not {r} {m} e f z = rw (e, f) (λ d. rw z (fails (λ s. d.no z (((s.classes, s.marks), s.marks_off), s.cells))))
 
 -- the cell for a state and a class is in the room, and holds a state
-pub cell-known :
+pub cell_known :
     {m : List ℕ} → SoundTable m → (q c : ℕ) → q < states_of m → c < classes_of m
     → (cells_at + (q * classes_of m + c) < ways_at) × (cell_of m q c < states_of m)
-cell-known {m} s q c h k =
+cell_known {m} s q c h k =
     let used : q * classes_of m + c < states_of m * classes_of m = omega (arith, mul-le-mul_right (classes_of m) h) in
     (omega (arith, cells_fit m s), s.cells (cells_at + (q * classes_of m + c)) (omega arith) (omega arith))
 
@@ -81,4 +81,4 @@ pub record CellAt (m : List ℕ) (q k c : ℕ) : Type 0 where
   pub inside : get_or m (cells_at + (q * k + c)) 0 < states_of m
 
 pub cell_at : {m : List ℕ} {q k c : ℕ} → SoundTable m → k ≡ classes_of m → q < states_of m → c < classes_of m → CellAt m q k c
-cell_at {m} {q} {k} {c} s e h l = let (a, b) = cell-known s q c h l in rw e (record { fits = a; long = s.long; is = refl; inside = b })
+cell_at {m} {q} {k} {c} s e h l = let (a, b) = cell_known s q c h l in rw e (record { fits = a; long = s.long; is = refl; inside = b })

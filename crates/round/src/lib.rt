@@ -54,8 +54,8 @@ fn looked(
     requires named { Named (OnePart part.now) part.now n }
     requires seen { Seen part.now touched seen.old at }
     ensures lower_bound { (at ≤ result) × (result ≤ n) × (result < n → get_or part.now result 0 < result) }
-    ensures seen_2 { Seen part.now touched seen.new result }
-    ensures by_index { (x : ℕ) → x < result → at ≤ x → Calm part.now touched x }
+    ensures seen_to { Seen part.now touched seen.new result }
+    ensures calm_between { (x : ℕ) → x < result → at ≤ x → Calm part.now touched x }
 {
     let mut q = signs::seek(*seen, at, n);
     while q < n {
@@ -95,13 +95,13 @@ pub fn round(
     requires named { Named (OnePart part.now) part.now n }
     requires next_len { (length next.old ≡ both_limit) × (length parent.old ≡ both_limit) × (length born.old ≡ both_limit) }
     requires steady { Steady (both a.now b.now).next part.now n touched.old }
-    requires by_index { (q : ℕ) → q < n → get_or next.old q 0 ≡ get_or part.now q 0 }
+    requires next_is_part { (q : ℕ) → q < n → get_or next.old q 0 ≡ get_or part.now q 0 }
     requires link_len { (length link.old ≡ both_limit) × ((x : ℕ) → get_or link.old x 0 ≡ 0) }
     ensures renamed { Renamed (Agree (both a.now b.now).next part.now) next.old next.new n }
     ensures births { Births part.now next.new parent.old parent.new born.old born.new r n }
     ensures stayed { Stayed part.now next.new from.now n touched.new }
     ensures decides { Decides result (Opened part.now next.new n) }
-    ensures link_len_2 { (length link.new ≡ both_limit) × ((x : ℕ) → n ≤ x → get_or link.new x 0 ≡ 0) }
+    ensures link_cleared { (length link.new ≡ both_limit) × ((x : ℕ) → n ≤ x → get_or link.new x 0 ≡ 0) }
 {
     let mut opened = false;
     let mut stirred: u64 = 0;

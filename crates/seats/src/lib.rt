@@ -44,7 +44,7 @@ fn remainder(s: Set) -> usize
 // The first of the n reached sets that is s, n if none is. Where there is no guess for its remainder, none has it.
 fn find(words: &[u64], n: usize, guess: u16, s: Set) -> usize
     requires n_le_state_limit { (n ≤ state_limit) × ((sets_at + state_limit) * set_words ≤ length words.now) }
-    requires fact { guess ≡ no_guess → (i : ℕ) → i < n → Is words.now (set_value s.words) i → ⊥ }
+    requires new_where_unguessed { guess ≡ no_guess → (i : ℕ) → i < n → Is words.now (set_value s.words) i → ⊥ }
     ensures { Found (Is words.now (set_value s.words)) n result }
 {
     if guess == NO_GUESS {

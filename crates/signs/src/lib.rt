@@ -51,7 +51,7 @@ pub fn seek(s: u64, q: usize, n: usize) -> usize
 fn note(room: &[u8], base: usize, q: usize, s: u64, from: &mut [u64; two_rooms::STATES])
     requires sound_table { SoundTable room.now × (q < states_of room.now) × (base + states_of room.now ≤ both_limit) }
     requires from_len { length from.old ≡ both_limit }
-    ensures from_len_2 { length from.new ≡ both_limit }
+    ensures from_long { length from.new ≡ both_limit }
     ensures cells_noted { CellsNoted room.now base q s from.old from.new (classes_of room.now) }
 {
     let k = room::head(room).classes;

@@ -15,7 +15,7 @@ use Rattle.scope.specs.Machines.Room.{states_of, classes_of, machine, SoundTable
 use Rattle.scope.specs.Machines.Canonical.{CanonicalTable}
 use Rattle.scope.specs.Bytes.{listed}
 use Rattle.scope.proofs.Counting.Lists.{listed_length, listed_at}
-use Rattle.scope.proofs.Machines.Room.{bytes-from-parts}
+use Rattle.scope.proofs.Machines.Room.{bytes_from_parts}
 use Rattle.scope.proofs.Machines.Run.{sound_closed}
 use Rattle.scope.proofs.Machines.SameMoves.{agree_same}
 use Rattle.scope.proofs.Machines.Moved.{moved_agree, canonical_table_moved}
@@ -75,7 +75,7 @@ module _ {a : List ℕ} {p : Plan} (d : Planned a p) where
           ∙ rw (e, t.order (i / k) q, leader (i % k) c, ← t.classes, z) (into (get_or a (cells_at + i) 0) v)
 
       bytes : SameTables m a
-      bytes = bytes-from-parts m a (record {
+      bytes = bytes_from_parts m a (record {
         states = is_states d m long byte ∙ t.states;
         classes = is_classes d m long byte ∙ t.classes;
         class = λ x h. is_class d m long byte x h ∙ t.class x h;

@@ -18,7 +18,7 @@ use Rattle.scope.proofs.Counting.Tests.{split}
 use Rattle.scope.proofs.Machines.Run.{sound_closed}
 use Rattle.buffers.specs.Stored.{Decides}
 use Rattle.room.specs.Head.{way_of}
-use Rattle.room.proofs.HeadAndParts.{cell-known}
+use Rattle.room.proofs.HeadAndParts.{cell_known}
 use Rattle.ways.specs.Held.{HeldClasses}
 use Rattle.ways.specs.LeastOver.{LeastOver}
 use Rattle.ways.proofs.HeldClasses.{held_below}
@@ -73,7 +73,7 @@ unlowered_more m l i q least r a p h k = rw (get_or-set_other least q p r 0 (λ 
 
 -- a listed class leads to a state
 leads : {m l : List ℕ} {n : ℕ} → SoundTable m → HeldClasses m l n → (q j : ℕ) → q < states_of m → j < n → cell_of m q (get_or l j 0) < states_of m
-leads {m} {l} s h q j x y = (cell-known s q (get_or l j 0) x (held_below s h j y (omega arith))).1
+leads {m} {l} s h q j x y = (cell_known s q (get_or l j 0) x (held_below s h j y (omega arith))).1
 
 module _ {m l : List ℕ} {n : ℕ} (s : SoundTable m) (g : (j : ℕ) → get_or m j 0 < byte_values) (h : HeldClasses m l n)
     (k : (q : ℕ) → q < states_of m → Short (key_of m q)) where

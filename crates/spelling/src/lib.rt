@@ -69,7 +69,7 @@ pub fn spell(
     word: &mut [u8],
 )
     requires spells { Spells left.now right.now part.now parent.now born.now long }
-    requires by_index { (count : ℕ) × Kinds left.now right.now least.now count }
+    requires kinds { (count : ℕ) × Kinds left.now right.now least.now count }
     requires long_in_bounds { long ≤ length word.old }
     ensures { WordHas left.now right.now word.old word.new long }
 {

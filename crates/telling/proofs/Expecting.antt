@@ -2,7 +2,7 @@
 -- at place 0 there is none.
 --   none_expected: at place 0 all are no
 --   prefix_expected: at another the bytes that keep the prefix before it completable
---   typed-stands: where a text died with its last byte, these are the bytes that keep completable what stands before it
+--   typed_stands: where a text died with its last byte, these are the bytes that keep completable what stands before it
 --   dead_whole: nothing completes a text that is dead
 --   died_cannot: the byte that died is always no
 --   all_no: all are no exactly if the last completable prefix is complete and nothing continues it, or the place is 0
@@ -85,11 +85,11 @@ dead_whole {M} {s} {i} g d c = d.dead (rw (take-append-le i s c.rest d.inside) a
 -- ---- a byte after a text
 
 -- where the text died with that byte, or at once
-pub typed-stands :
+pub typed_stands :
     {M : Machine} (w : List ℕ) (k : ℕ) {i : ℕ} → Bytes w → DeadAt M (w ++ (k ∷ [])) i → (i ≡ 0) ⊎ (length w < i)
     → (b : ℕ) → b < byte_values → Completable M (w ++ (b ∷ [])) ↔ CouldStand M (w ++ (k ∷ [])) i b
-typed-stands w k g d (inl z) b h = (λ c. absurd (rw z at d.dead (shorter [] (w ++ (b ∷ [])) (bytes_append w (b ∷ []) g (h, tt)) c)), λ c. absurd (omega (arith, c.last)))
-typed-stands w k {i} g d (inr l) b h = (λ c. record { before = length w; last = z; goes_on = rw own c }, λ c. rw own at (stands_before z c))
+typed_stands w k g d (inl z) b h = (λ c. absurd (rw z at d.dead (shorter [] (w ++ (b ∷ [])) (bytes_append w (b ∷ []) g (h, tt)) c)), λ c. absurd (omega (arith, c.last)))
+typed_stands w k {i} g d (inr l) b h = (λ c. record { before = length w; last = z; goes_on = rw own c }, λ c. rw own at (stands_before z c))
   where
     z : suc (length w) ≡ i
     z = omega (arith, d.inside, length-append w (k ∷ []))

@@ -4,7 +4,7 @@ use native.Mathlib.Omega.{arith}
 use lib.Seq.{length-take-le}
 use Rattle.compare.proofs.Results.{compares_fits}
 use Rattle.alike_report.specs.Report.{puts}
-use Rattle.alike_report.proofs.TakenApart.{comparing-as, short}
+use Rattle.alike_report.proofs.TakenApart.{comparing_as, short}
 use Rattle.alike_report.proofs.put.Goals as goal
 
 pub slice_bounds-print_lines-end : goal.slice_bounds-print_lines-end
@@ -19,6 +19,6 @@ print_lines-requires c = (c.requires.0, short c.compare-compared.ensures c.lengt
 
 pub returns : goal.returns
 returns c = record {
-  puts = puts (comparing-as c.requires.1 c.compare-compared.ensures c.number-number.ensures c.length-count.ensures c.rounds-rounds.ensures) c.print_lines.ensures.appended;
+  puts = puts (comparing_as c.requires.1 c.compare-compared.ensures c.number-number.ensures c.length-count.ensures c.rounds-rounds.ensures) c.print_lines.ensures.appended;
   result_bound = c.print_lines.ensures.upper_bound;
 }

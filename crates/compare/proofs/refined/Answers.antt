@@ -51,7 +51,7 @@ spell-requires c =
     let (s, t) = c.requires.sound in
     record {
       spells = answer_spells s t r e;
-      by_index = (_, c.kinds-kinds.ensures);
+      kinds = (_, c.kinds-kinds.ensures);
       long_in_bounds = omega (arith, answer_fits s t r e, c.requires.word_bytes_in_bounds.0);
     }
 

@@ -15,7 +15,7 @@ returns-then-is_live c = let q = c.last_state-q in let live : Live (machine c.ar
     (not_accepting c.args.room.now c.args.text.now q.ensures.0 c.if-room-q-eq1.false)
 
 pub first_dead-requires : goal.first_dead-requires
-first_dead-requires c = let q = c.last_state-q in record { sound = c.requires; fact = λ l. c.is_live.ensures.no c.if-is_live.false (rw q.ensures.0 l) }
+first_dead-requires c = let q = c.last_state-q in record { sound = c.requires; dead = λ l. c.is_live.ensures.no c.if-is_live.false (rw q.ensures.0 l) }
 
 pub returns : goal.returns
 returns c = dead c.requires c.first_dead.ensures

@@ -3,7 +3,7 @@ use Prim.Native.Nat.{◌+◌, ◌-◌}
 use native.Mathlib.Omega.{arith}
 use borrow.Author.Rules.{rules}
 use Rattle.put_packed.proofs.Joined.{top_lt}
-use Rattle.put_packed.proofs.PutBits.{put_few, put-many}
+use Rattle.put_packed.proofs.PutBits.{put_few, put_many}
 use Rattle.put_packed.proofs.put.Goals as goal
 
 pub overflow_cast-out : goal.overflow_cast-out
@@ -24,4 +24,4 @@ returns-else-count-lt8 c =
     let r = c.join-all in
     λ b old p f h.
     rw c.low.ensures
-    (put-many f a.width a.x r.result (a.begun.count + a.width - 8) r.ensures.0 (omega arith) (omega arith) (omega (arith, f.done.size)) h)
+    (put_many f a.width a.x r.result (a.begun.count + a.width - 8) r.ensures.0 (omega arith) (omega arith) (omega (arith, f.done.size)) h)

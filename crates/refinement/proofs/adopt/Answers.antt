@@ -36,4 +36,4 @@ pub returns : goal.returns
 returns c =
     let e : c.loop-q.q ≡ c.args.n = omega arith in
     let v = rw e at c.loop-q.invariant in
-    record { written = stored_written v.1; written_2 = stored_written v.2 }
+    record { part_written = stored_written v.1; link_written = stored_written v.2 }

@@ -55,14 +55,14 @@ loop-from-init c =
     let b = c.begin-touched.ensures in
     let w = c.adopt.ensures in (
       b.part_len.0,
-      w.written.size,
+      w.part_written.size,
       rw z.1 refl,
       rw z.2 refl,
       rw (z.1, z.2) (after_none _ _ b.part_len.1),
       b.steady,
-      w.written.inside,
-      w.written_2.size,
-      cleared w.written_2 (λ x h. zeros both_limit x),
+      w.part_written.inside,
+      w.link_written.size,
+      cleared w.link_written (λ x h. zeros both_limit x),
     )
 
 pub slice_bounds-round-end : goal.slice_bounds-round-end
@@ -85,12 +85,12 @@ round-requires c =
       named = after_own _ d.closed _ _ _ _ v.4;
       next_len = (v.1, v.2, v.3);
       steady = v.5;
-      by_index = v.6;
+      next_is_part = v.6;
       link_len = (v.7, v.8);
     }
 
 pub adopt-requires-in-loop-from : goal.adopt-requires-in-loop-from
-adopt-requires-in-loop-from c = (states c.requires.first_states, c.loop-from.invariant.0, c.round.ensures.link_len_2.0)
+adopt-requires-in-loop-from c = (states c.requires.first_states, c.loop-from.invariant.0, c.round.ensures.link_cleared.0)
 
 pub overflow_add-r-in-loop-from : goal.overflow_add-r-in-loop-from
 overflow_add-r-in-loop-from c = omega (arith, after_few _ c.requires.first_states.closed _ _ _ _ c.loop-from.invariant.4, c.ranges.n)
@@ -107,15 +107,15 @@ loop-from-preserved c =
     let v = c.loop-from.invariant in
     let e = c.round.ensures in
     let w = c.adopt-in-loop-from.ensures in (
-      w.written.size ∙ v.0,
+      w.part_written.size ∙ v.0,
       e.renamed.long ∙ v.1,
       e.births.parent_long ∙ v.2,
       e.births.born_long ∙ v.3,
-      after_copied _ w.written.inside (after_more _ d.closed _ _ _ _ v.4 _ _ _ e.renamed.named e.births (e.decides.yes c.loop-from-test.true)),
-      steady_next {M = side a.a.now a.b.now a.n} d.closed c.note_all.ensures.sources e.renamed e.stayed w.written,
-      λ q h. sym (w.written.inside q h),
-      w.written_2.size ∙ e.link_len_2.0,
-      cleared w.written_2 e.link_len_2.1,
+      after_copied _ w.part_written.inside (after_more _ d.closed _ _ _ _ v.4 _ _ _ e.renamed.named e.births (e.decides.yes c.loop-from-test.true)),
+      steady_next {M = side a.a.now a.b.now a.n} d.closed c.note_all.ensures.sources e.renamed e.stayed w.part_written,
+      λ q h. sym (w.part_written.inside q h),
+      w.link_written.size ∙ e.link_cleared.0,
+      cleared w.link_written e.link_cleared.1,
     )
 
 pub returns : goal.returns

@@ -5,7 +5,7 @@ use native.Mathlib.Omega.{arith}
 use borrow.Author.Rules.{rules}
 use Rattle.buffers.proofs.OneMore.{fails, and_true, and_false}
 use Rattle.buffers.specs.Stored.{Decides}
-use Rattle.room.proofs.HeadAndParts.{PartsBelow, sound-last, sound_not}
+use Rattle.room.proofs.HeadAndParts.{PartsBelow, sound_last, sound_not}
 use Rattle.room.proofs.is_table.Goals as goal
 use Rattle.room.proofs.is_table.Goals.{Joined-are_below-3}
 
@@ -45,7 +45,7 @@ pub are_zero-requires : goal.are_zero-requires
 are_zero-requires c = (omega (arith, mul-le-mul c.if-n-gt-STATES.false c.if-k-gt-CLASSES.false), search rules)
 
 pub returns-then-are_below-4 : goal.returns-then-are_below-4
-returns-then-are_below-4 c = sound-last c.if-room-lt-ROOM.false c.head-machine.ensures.0 c.head-machine.ensures.1
+returns-then-are_below-4 c = sound_last c.if-room-lt-ROOM.false c.head-machine.ensures.0 c.head-machine.ensures.1
     (c.if-n-lt1.false, c.if-n-gt-STATES.false, c.if-k-lt1.false, c.if-k-gt-CLASSES.false)
     ((judged (goal.at.returns-then-are_below-4 c).Joined-are_below-3).yes c.if-are_below-4.true) c.are_zero.ensures
 

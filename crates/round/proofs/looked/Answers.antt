@@ -15,7 +15,7 @@ loop-q-init c =
 pub returns-then-sign-touched-ne0 : goal.returns-then-sign-touched-ne0
 returns-then-sign-touched-ne0 c =
     let (v, s) = c.loop-q.invariant in
-    record { lower_bound = (v.0, v.1, λ l. c.if-h-q.true); seen_2 = s.0; by_index = s.1 }
+    record { lower_bound = (v.0, v.1, λ l. c.if-h-q.true); seen_to = s.0; calm_between = s.1 }
 
 pub loop-q-preserved : goal.loop-q-preserved
 loop-q-preserved c =
@@ -35,7 +35,7 @@ pub returns : goal.returns
 returns c =
     let (v, s) = c.loop-q.invariant in
     let e : c.args.n ≡ c.loop-q.q = omega (arith, c.loop-q-test.false, v) in
-    rw e (record { lower_bound = (v.0, omega arith, λ k. absurd (omega arith)); seen_2 = s.0; by_index = s.1 })
+    rw e (record { lower_bound = (v.0, omega arith, λ k. absurd (omega arith)); seen_to = s.0; calm_between = s.1 })
 
 pub overflow_cast-h : goal.overflow_cast-h
 overflow_cast-h c = omega (arith, (c.requires.named c.loop-q.q c.loop-q-test.true).low)

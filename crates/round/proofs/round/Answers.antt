@@ -26,8 +26,8 @@ loop-q-init c =
     let (l, h, k) = e.lower_bound in (
       h,
       k,
-      e.seen_2,
-      come_gap few c.requires.next_len.0 c.requires.named c.requires.steady c.requires.by_index l h e.by_index
+      e.seen_to,
+      come_gap few c.requires.next_len.0 c.requires.named c.requires.steady c.requires.next_is_part l h e.calm_between
           (record { passed = passed_none _ _ _ _ _ _ _ c.requires.link_len.0 c.requires.link_len.1; stayed = stayed_none a.part.now a.next.now a.from.now }),
     )
 
@@ -72,7 +72,7 @@ loop-q-preserved c =
     let p = v.passed in
     let t = c.loop-q-test.true in
     let f = c.walk-p in
-    let same = c.requires.by_index q t in
+    let same = c.requires.next_is_part q t in
     let come : Come (both a.a.now a.b.now).next a.part.now a.next.now i.next i.link a.parent.now i.parent a.born.now i.born a.from.now a.r i.opened i.stirred (q + 1) =
     elim i.branch [
       | then-p-h+then-shift w ↦
@@ -98,10 +98,10 @@ loop-q-preserved c =
     ] in
     let (l, h, k) = c.looked-q-in-loop-q.ensures.lower_bound in
     let e = c.looked-q-in-loop-q.ensures in
-    (h, k, e.seen_2, come_gap few g.0 c.requires.named c.requires.steady c.requires.by_index l h e.by_index come)
+    (h, k, e.seen_to, come_gap few g.0 c.requires.named c.requires.steady c.requires.next_is_part l h e.calm_between come)
 
 pub returns : goal.returns
 returns c =
     let e : c.loop-q.q ≡ c.args.n = omega (arith, c.loop-q-test.false, c.loop-q.invariant.0) in
     let v = rw e at c.loop-q.invariant.3 in
-    record { renamed = v.passed.named; births = v.passed.births; stayed = v.stayed; decides = v.passed.some; link_len_2 = (v.passed.link_long, v.passed.zero) }
+    record { renamed = v.passed.named; births = v.passed.births; stayed = v.stayed; decides = v.passed.some; link_cleared = (v.passed.link_long, v.passed.zero) }

@@ -3,7 +3,7 @@
 --   cell_used: the cell that a state reads for a byte is a used one
 --   cells_fit: the used cells end before the ways home
 --   SameParts a b: the used parts of two rooms are equal
---   bytes-from-parts: rooms with equal used parts, and 0 elsewhere, are equal up to the ways home
+--   bytes_from_parts: rooms with equal used parts, and 0 elsewhere, are equal up to the ways home
 use Prim.Native.Nat.{ℕ, ◌+◌, ◌-◌, ◌*◌, ◌≤◌, ◌<◌}
 use mathlib.Core.Path.{◌≡◌}
 use mathlib.Core.Logic.{◌⊎◌, inl, inr}
@@ -37,10 +37,10 @@ pub record SameParts (a b : List ℕ) : Type 0 where
   pub cell : (i : ℕ) → i < states_of a * classes_of a → get_or a (cells_at + i) 0 ≡ get_or b (cells_at + i) 0
 
 -- what is not used is 0 in both rooms, so the used parts are all
-pub bytes-from-parts :
+pub bytes_from_parts :
     (a b : List ℕ) → SameParts a b → Below a (marks_at + states_of a) cells_at 1 → Below b (marks_at + states_of b) cells_at 1
     → Below a (cells_at + states_of a * classes_of a) ways_at 1 → Below b (cells_at + states_of b * classes_of b) ways_at 1 → SameTables a b
-bytes-from-parts a b e u v x y i h =
+bytes_from_parts a b e u v x y i h =
     go (split i 1) (split i classes_at) (split i marks_at) (split i (marks_at + states_of a)) (split i cells_at) (split i (cells_at + states_of a * classes_of a))
   where
     size : states_of a * classes_of a ≡ states_of b * classes_of b

@@ -14,7 +14,7 @@ use Rattle.scope.specs.Machines.Machine.{Machine, Same, Equal, Closed, Reached}
 use Rattle.scope.specs.Machines.Room.{states_of, classes_of, class_of, mark_of, next_of, machine, SoundTable, SameTables, SameBytes}
 use Rattle.scope.specs.Machines.Canonical.{met, entry, CanonicalTable, Canonical}
 use Rattle.scope.proofs.Counting.Tests.{split, bit_same}
-use Rattle.scope.proofs.Machines.Room.{SameParts, bytes-from-parts}
+use Rattle.scope.proofs.Machines.Room.{SameParts, bytes_from_parts}
 use Rattle.scope.proofs.Machines.Run.{run_below, run_agree, sound_closed}
 use Rattle.scope.proofs.Machines.Least.{least}
 use Rattle.scope.proofs.Machines.Moved.{tables_bytes}
@@ -129,7 +129,7 @@ module _ (a b : List ℕ) (s : SoundTable a) (t : SoundTable b) (c : CanonicalTa
 
 -- two canonical tables for the same strings are equal, byte by byte
 pub unique_table : (a b : List ℕ) → SoundTable a → SoundTable b → CanonicalTable a → CanonicalTable b → Equal (machine a) (machine b) → SameTables a b
-unique_table a b s t c d e = bytes-from-parts a b parts s.marks_off t.marks_off s.cells_off t.cells_off
+unique_table a b s t c d e = bytes_from_parts a b parts s.marks_off t.marks_off s.cells_off t.cells_off
   where
     parts : SameParts a b
     parts = record { states = states a b s t c d e; classes = classes a b s t c d e; class = class a b s t c d e; mark = mark a b s t c d e; cell = cell a b s t c d e }

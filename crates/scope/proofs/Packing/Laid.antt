@@ -16,7 +16,7 @@ use Rattle.scope.specs.Machines.Room.{states_of, classes_of, SoundTable, Sound, 
 use Rattle.scope.specs.Packing.PackedForm.{bits, fields, value, form_bits, form_length, form_byte, FormOf}
 use Rattle.scope.specs.Packing.Laid.{bit_of, from, Holds, cells_bit, end_bit, Laid, Framed}
 use Rattle.scope.proofs.Counting.Tests.{split}
-use Rattle.scope.proofs.Machines.Room.{SameParts, bytes-from-parts}
+use Rattle.scope.proofs.Machines.Room.{SameParts, bytes_from_parts}
 use Rattle.scope.proofs.Machines.Moved.{tables_bytes}
 use Rattle.scope.proofs.Packing.PackedForm.{bits_length, fields_length, part_length, form_bits_lem}
 use Rattle.scope.proofs.Packing.ReadBack.{Bits, value_ext, value_lt, value_join, value_one, bits_at, fields_at, bits_are, fields_are, join_are}
@@ -26,7 +26,7 @@ framed m s = record { some_state = s.some_state; some_class = s.some_class; mark
 
 -- a table is a function of its bit sequence
 pub laid_one : (b : ℕ → ℕ) (m n : List ℕ) → Framed m → Framed n → Laid b m → Laid b n → SameTables m n
-laid_one b m n s t u v = bytes-from-parts m n parts s.marks_off t.marks_off s.cells_off t.cells_off
+laid_one b m n s t u v = bytes_from_parts m n parts s.marks_off t.marks_off s.cells_off t.cells_off
   where
     states : states_of m ≡ states_of n
     states = omega (arith, u.states, v.states, s.some_state, t.some_state)
@@ -64,10 +64,10 @@ part_at : (m : List ℕ) (start n i : ℕ) → i < n → get_or (take n (drop st
 part_at m start n i h = get_or-take n (drop start m) i 0 h ∙ get_or-drop start m i 0
 
 -- the fields of a part of a room, behind k and before r
-part-laid :
+part_laid :
     (m k r : List ℕ) (p w start n : ℕ) → length k ≡ p → start + n ≤ length m → ((i : ℕ) → i < start + n → start ≤ i → get_or m i 0 < 2 ^ w)
     → (i : ℕ) → i < n → Holds (bit_of (k ++ (fields w (take n (drop start m)) ++ r))) (p + i * w) w (get_or m (start + i) 0)
-part-laid m k r p w start n e l b i h =
+part_laid m k r p w start n e l b i h =
     let l' : i < length (take n (drop start m)) = rw (part_length m start n l) h in
     let x : get_or (take n (drop start m)) i 0 ≡ get_or m (start + i) 0 = part_at m start n i h in
     fields_at k w (take n (drop start m)) r p e i l' (rw x (b (start + i) (omega arith) (omega arith))) ∙ x
@@ -123,9 +123,9 @@ form_laid m s =
       number = bits_at [] 4 1 (b ++ (c ++ (d ++ (e ++ f)))) 0 refl (lit< tt);
       states = bits_at a 7 (states_of m - 1) (c ++ (d ++ (e ++ f))) 4 (bits_length 4 1) (omega (arith, s.few_states));
       classes = rw e2 (bits_at (a ++ b) 6 (classes_of m - 1) (d ++ (e ++ f)) 11 n2 (omega (arith, s.few_classes)));
-      class = λ i h. rw e3 (part-laid m ((a ++ b) ++ c) (e ++ f) 17 6 classes_at byte_values n3 (omega arith) (λ j u v. omega (arith, s.classes j u v, s.few_classes)) i h);
-      mark = λ i h. rw e4 (part-laid m (((a ++ b) ++ c) ++ d) f 1553 1 marks_at (states_of m) n4 (omega (arith, s.few_states)) (λ j u v. s.marks j u v) i h);
-      cell = λ i h. rw e5 (part-laid m ((((a ++ b) ++ c) ++ d) ++ e) [] (cells_bit m) 7 cells_at (states_of m * classes_of m) n5 (omega arith) (λ j u v. omega (arith, s.cells j u v, s.few_states)) i h);
+      class = λ i h. rw e3 (part_laid m ((a ++ b) ++ c) (e ++ f) 17 6 classes_at byte_values n3 (omega arith) (λ j u v. omega (arith, s.classes j u v, s.few_classes)) i h);
+      mark = λ i h. rw e4 (part_laid m (((a ++ b) ++ c) ++ d) f 1553 1 marks_at (states_of m) n4 (omega (arith, s.few_states)) (λ j u v. s.marks j u v) i h);
+      cell = λ i h. rw e5 (part_laid m ((((a ++ b) ++ c) ++ d) ++ e) [] (cells_bit m) 7 cells_at (states_of m * classes_of m) n5 (omega arith) (λ j u v. omega (arith, s.cells j u v, s.few_states)) i h);
       rest = λ j h. get_or-eq_default (form_bits m) 0 {n = j} (omega (arith, form_bits_lem m s));
     }
 
@@ -137,12 +137,12 @@ holds_one b c p w x k l u v j lo hi =
     let t : b (p + (j - p)) ≡ c (p + (j - p)) = value_one w (from b p) (from c p) (λ i h. k (p + i)) (λ i h. l (p + i)) (u ∙ sym v) (j - p) (omega arith) in
     rw z at t
 
-holds-all :
+holds_all :
     (b c : ℕ → ℕ) (p w n : ℕ) (f : ℕ → ℕ) → ((j : ℕ) → b j < 2) → ((j : ℕ) → c j < 2)
     → ((i : ℕ) → i < n → Holds b (p + i * w) w (f i)) → ((i : ℕ) → i < n → Holds c (p + i * w) w (f i)) → (j : ℕ) → p ≤ j → j < p + n * w → b j ≡ c j
-holds-all b c p w zero f k l u v j lo hi = absurd (omega (arith, zero-mul w))
-holds-all b c p w (suc n) f k l u v j lo hi = elim (split j (p + n * w)) [
-  | inl h ↦ holds-all b c p w n f k l (λ i a. u i (omega arith)) (λ i a. v i (omega arith)) j lo h
+holds_all b c p w zero f k l u v j lo hi = absurd (omega (arith, zero-mul w))
+holds_all b c p w (suc n) f k l u v j lo hi = elim (split j (p + n * w)) [
+  | inl h ↦ holds_all b c p w n f k l (λ i a. u i (omega arith)) (λ i a. v i (omega arith)) j lo h
   | inr h ↦ holds_one b c (p + n * w) w (f n) k l (u n (omega arith)) (v n (omega arith)) j h (omega (arith, suc-mul n w))
 ]
 
@@ -153,9 +153,9 @@ bits_one b c m u v j = go (split j 4) (split j 11) (split j 17) (split j 1553) (
     go (inl h) h2 h3 h4 h5 h6 = holds_one b c 0 4 1 u.bit v.bit u.number v.number j (omega arith) h
     go (inr h) (inl h2) h3 h4 h5 h6 = holds_one b c 4 7 (states_of m - 1) u.bit v.bit u.states v.states j h h2
     go (inr h) (inr h2) (inl h3) h4 h5 h6 = holds_one b c 11 6 (classes_of m - 1) u.bit v.bit u.classes v.classes j h2 h3
-    go (inr h) (inr h2) (inr h3) (inl h4) h5 h6 = holds-all b c 17 6 byte_values (λ i. get_or m (classes_at + i) 0) u.bit v.bit u.class v.class j h3 (omega arith)
-    go (inr h) (inr h2) (inr h3) (inr h4) (inl h5) h6 = holds-all b c 1553 1 (states_of m) (λ i. get_or m (marks_at + i) 0) u.bit v.bit u.mark v.mark j h4 (omega (arith, mul-one (states_of m)))
-    go (inr h) (inr h2) (inr h3) (inr h4) (inr h5) (inl h6) = holds-all b c (cells_bit m) 7 (states_of m * classes_of m) (λ i. get_or m (cells_at + i) 0) u.bit v.bit u.cell v.cell j h5 h6
+    go (inr h) (inr h2) (inr h3) (inl h4) h5 h6 = holds_all b c 17 6 byte_values (λ i. get_or m (classes_at + i) 0) u.bit v.bit u.class v.class j h3 (omega arith)
+    go (inr h) (inr h2) (inr h3) (inr h4) (inl h5) h6 = holds_all b c 1553 1 (states_of m) (λ i. get_or m (marks_at + i) 0) u.bit v.bit u.mark v.mark j h4 (omega (arith, mul-one (states_of m)))
+    go (inr h) (inr h2) (inr h3) (inr h4) (inr h5) (inl h6) = holds_all b c (cells_bit m) 7 (states_of m * classes_of m) (λ i. get_or m (cells_at + i) 0) u.bit v.bit u.cell v.cell j h5 h6
     go (inr h) (inr h2) (inr h3) (inr h4) (inr h5) (inr h6) = u.rest j h6 ∙ sym (v.rest j h6)
 
 -- ---- the bytes of a form determine its bits

@@ -19,4 +19,4 @@ pub returns : goal.returns
 returns c = found_none (λ j h. c.loop-i.invariant.1 j (omega arith))
 
 pub returns-then-guess-eq-NO_GUESS : goal.returns-then-guess-eq-NO_GUESS
-returns-then-guess-eq-NO_GUESS c = found_none (c.requires.fact c.if-guess-eq-NO_GUESS.true)
+returns-then-guess-eq-NO_GUESS c = found_none (c.requires.new_where_unguessed c.if-guess-eq-NO_GUESS.true)

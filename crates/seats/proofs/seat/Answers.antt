@@ -25,7 +25,7 @@ returns-then-is_at c = let g = c.is_at.ensures c.if-is_at.true in record { seate
 pub find-i-requires : goal.find-i-requires
 find-i-requires c =
     let d = c.requires in
-    record { n_le_state_limit = (d.0, d.1); fact = λ e. guess_none d.2 _ (ap (λ (x : ℕ). get_or c.args.guesses.now x 0) (sym c.remainder-at.ensures) ∙ e) }
+    record { n_le_state_limit = (d.0, d.1); new_where_unguessed = λ e. guess_none d.2 _ (ap (λ (x : ℕ). get_or c.args.guesses.now x 0) (sym c.remainder-at.ensures) ∙ e) }
 
 pub overflow_cast-guesses : goal.overflow_cast-guesses
 overflow_cast-guesses c = omega (arith, c.find-i.ensures.most, c.requires.0)

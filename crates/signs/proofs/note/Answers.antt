@@ -17,7 +17,7 @@ loop-c-preserved c =
 pub returns : goal.returns
 returns c =
     let e : c.loop-c.c ≡ classes_of c.args.room.now = omega arith in
-    record { from_len_2 = c.loop-c.invariant.long; cells_noted = rw e at c.loop-c.invariant.noted }
+    record { from_long = c.loop-c.invariant.long; cells_noted = rw e at c.loop-c.invariant.noted }
 
 pub loop-c-init : goal.loop-c-init
 loop-c-init c = search (rules, noting_none)

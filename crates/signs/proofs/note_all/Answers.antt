@@ -39,10 +39,10 @@ loop-q-preserved c =
       elim c.if-q-s.branch [
         | then-q-s w ↦
             let e = w.note.ensures in
-            rw w.from-is (e.from_len_2, sources_left d w.sign.ensures v.2.1 (rw s at w.if-q-s.true) e.cells_noted)
+            rw w.from-is (e.from_long, sources_left d w.sign.ensures v.2.1 (rw s at w.if-q-s.true) e.cells_noted)
         | else-q-s w ↦
             let e = w.note-else-q-s.ensures in
-            rw w.from-is (e.from_len_2, sources_right d w.sign-else-q-s.ensures v.2.1 (rw s at w.if-q-s.false) (rw s at e.cells_noted))
+            rw w.from-is (e.from_long, sources_right d w.sign-else-q-s.ensures v.2.1 (rw s at w.if-q-s.false) (rw s at e.cells_noted))
       ],
     )
 

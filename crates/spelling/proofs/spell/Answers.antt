@@ -11,7 +11,7 @@ loop-i-init c = below_none _
 
 pub bounds-least-i : goal.bounds-least-i
 bounds-least-i c =
-    let k = c.requires.by_index.1.are in
+    let k = c.requires.kinds.1.are in
     omega (arith, untried c.requires.spells k c.walk.invariant c.if-at-long.false c.loop-i.i c.loop-i.invariant, k.few)
 
 pub step-y-requires : goal.step-y-requires
@@ -34,16 +34,16 @@ climb-requires-in-loop-i c = climb_ready c.requires.spells _ _ c.step-z.ensures.
 
 pub overflow_add-i : goal.overflow_add-i
 overflow_add-i c =
-    let k = c.requires.by_index.1.are in
+    let k = c.requires.kinds.1.are in
     omega (arith, untried c.requires.spells k c.walk.invariant c.if-at-long.false c.loop-i.i c.loop-i.invariant, k.few)
 
 pub loop-i-smaller : goal.loop-i-smaller
 loop-i-smaller c =
-    let k = c.requires.by_index.1.are in
+    let k = c.requires.kinds.1.are in
     omega (arith, untried c.requires.spells k c.walk.invariant c.if-at-long.false c.loop-i.i c.loop-i.invariant, k.few)
 
 pub loop-i-preserved : goal.loop-i-preserved
-loop-i-preserved c = tried_more c.requires.spells c.requires.by_index.1.are c.walk.invariant c.if-at-long.false c.loop-i.i c.loop-i.invariant
+loop-i-preserved c = tried_more c.requires.spells c.requires.kinds.1.are c.walk.invariant c.if-at-long.false c.loop-i.i c.loop-i.invariant
     c.step-y.ensures c.step-z.ensures c.climb.ensures c.climb-in-loop-i.ensures c.if-climb.false
 
 pub bounds-word-at : goal.bounds-word-at
@@ -57,7 +57,7 @@ walk-smaller c = omega (arith, c.walk.invariant.within, c.if-at-long.false)
 
 pub walk-preserved : goal.walk-preserved
 walk-preserved c = let w = c.walk.invariant in
-    writing_more c.requires.spells c.requires.by_index.1.are w c.if-at-long.false c.loop-i.i c.loop-i.invariant
+    writing_more c.requires.spells c.requires.kinds.1.are w c.if-at-long.false c.loop-i.i c.loop-i.invariant
     c.step-y.ensures c.step-z.ensures c.climb.ensures c.climb-in-loop-i.ensures
     (omega (arith, w.within, c.if-at-long.false, c.requires.long_in_bounds)) c.if-climb.true
 
