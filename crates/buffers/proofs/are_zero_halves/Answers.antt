@@ -9,10 +9,18 @@ pub loop-i-init : goal.loop-i-init
 loop-i-init c = let a = c.args in (search rules, search rules, zeros_none a.m.now _ _ (omega arith), zeros_none a.m.now _ _ (omega arith))
 
 pub loop-i-preserved : goal.loop-i-preserved
-loop-i-preserved c = let v = c.loop-i in let m = c.args.m.now in
-    (search rules, search rules, zeros_more m v.first _ v.i _ v.invariant.0 (omega arith) v.invariant.2, zeros_more m v.second _ (v.i + _) _ (omega (arith, v.invariant.0)) (omega arith) v.invariant.3)
+loop-i-preserved c =
+    let v = c.loop-i in
+    let m = c.args.m.now in (
+      search rules,
+      search rules,
+      zeros_more m v.first _ v.i _ v.invariant.0 (omega arith) v.invariant.2,
+      zeros_more m v.second _ (v.i + _) _ (omega (arith, v.invariant.0)) (omega arith) v.invariant.3,
+    )
 
 pub returns : goal.returns
-returns c = let a = c.args in
-    let v = c.loop-i in let e : v.i ≡ a.from + a.half = omega arith in
+returns c =
+    let a = c.args in
+    let v = c.loop-i in
+    let e : v.i ≡ a.from + a.half = omega arith in
     zeros_decide a.m.now _ _ _ (zeros_join a.m.now v.first v.second _ _ _ (omega arith) (omega arith) (rw e at v.invariant.2) (rw e at v.invariant.3))

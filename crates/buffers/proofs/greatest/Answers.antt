@@ -8,9 +8,13 @@ pub loop-i-init : goal.loop-i-init
 loop-i-init c = (search rules, (λ i h k. absurd (omega arith)), λ l h. search rules)
 
 pub loop-i-preserved : goal.loop-i-preserved
-loop-i-preserved c = let v = c.loop-i.invariant in
+loop-i-preserved c =
+    let v = c.loop-i.invariant in
     let m = c.args.m.now in
-    elim c.if-x-top.branch [ then-x-top w ↦ rw w.top-is (search rules, most_new m _ _ _ w.if-x-top.true v.1, λ l f. f _ (search rules) (search rules)) | else-x-top w ↦ rw w.top-is (search rules, most_old m _ _ _ w.if-x-top.false v.1, v.2) ]
+    elim c.if-x-top.branch [
+      | then-x-top w ↦ rw w.top-is (search rules, most_new m _ _ _ w.if-x-top.true v.1, λ l f. f _ (search rules) (search rules))
+      | else-x-top w ↦ rw w.top-is (search rules, most_old m _ _ _ w.if-x-top.false v.1, v.2)
+    ]
 
 pub returns : goal.returns
 returns c = record { above = λ i h k. c.loop-i.invariant.1 i (omega arith) k; least = c.loop-i.invariant.2 }

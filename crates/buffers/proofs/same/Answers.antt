@@ -9,9 +9,13 @@ pub loop-i-init : goal.loop-i-init
 loop-i-init c = (search rules, holds (λ i h. absurd (omega arith)))
 
 pub loop-i-preserved : goal.loop-i-preserved
-loop-i-preserved c = let v = c.loop-i.invariant in
-    let p = c.args in
-    elim c.if-a-i.branch [ then-a-i w ↦ rw w.alike-is (search rules, alike_not p.a.now p.b.now _ w.if-a-i.true) | else-a-i w ↦ rw w.alike-is (search rules, alike_more p.a.now p.b.now _ w.if-a-i.false v.1) ]
+loop-i-preserved c =
+    let a = c.args.a.now in
+    let b = c.args.b.now in
+    elim c.if-a-i.branch [
+      | then-a-i w ↦ rw w.alike-is (search rules, alike_not a b _ w.if-a-i.true)
+      | else-a-i w ↦ rw w.alike-is (search rules, alike_more a b _ w.if-a-i.false c.loop-i.invariant.1)
+    ]
 
 pub returns : goal.returns
 returns c = let e : c.loop-i.i ≡ c.args.n = omega arith in rw e at c.loop-i.invariant.1

@@ -1,21 +1,33 @@
 -- The head decides whether the five parts are judged; of these, each `&&` decides one more.
-use mathlib.Core.Logic.{⊎_elim}
+use Prim.Native.Nat.{◌+◌}
 use native.Mathlib.Nat.{mul-le-mul}
 use native.Mathlib.Omega.{arith}
 use borrow.Author.Rules.{rules}
 use Rattle.buffers.proofs.OneMore.{fails, and_true, and_false}
+use Rattle.scope.specs.Limits.{classes_at, marks_at, cells_at}
+use Rattle.scope.specs.Machines.Room.{Below}
 use Rattle.buffers.specs.Stored.{Decides}
 use Rattle.room.proofs.HeadAndParts.{PartsBelow, sound_last, sound_not}
 use Rattle.room.proofs.is_table.Goals as goal
-use Rattle.room.proofs.is_table.Goals.{Joined-are_below-3}
+use Rattle.room.proofs.is_table.Goals.{Joined-are_below-3, then-are_below, else-are_below, then-are_below-2, else-are_below-2, then-are_below-3, else-are_below-3}
 
 judged : (d : Joined-are_below-3) → Decides d.if-are_below-3.value (PartsBelow d.args.room.now d.head-machine.result.states d.head-machine.result.classes)
 judged d =
-    let one = d.are_below.ensures in
-    let two = ⊎_elim (λ w. and_true one w.if-are_below.true w.are_below-then-are_below.ensures w.value-is) (λ w. and_false one w.if-are_below.false w.value-is) d.if-are_below.branch-raw in
-    let three = ⊎_elim (λ w. and_true two w.if-are_below-2.true w.are_below-then-are_below-2.ensures w.value-is) (λ w. and_false two w.if-are_below-2.false w.value-is) d.if-are_below-2.branch-raw in
-    ⊎_elim {C = Decides d.if-are_below-3.value (PartsBelow d.args.room.now d.head-machine.result.states d.head-machine.result.classes)}
-    (λ w. and_true three w.if-are_below-3.true w.are_below-then-are_below-3.ensures w.value-is) (λ w. and_false three w.if-are_below-3.false w.value-is) d.if-are_below-3.branch-raw
+    let m = d.args.room.now in
+    let n = d.head-machine.result.states in
+    let k = d.head-machine.result.classes in
+    let two : Decides d.if-are_below.value (Below m classes_at marks_at k × Below m marks_at (marks_at + n) 2) = elim d.if-are_below.branch [
+      | then-are_below w ↦ and_true d.are_below.ensures w.if-are_below.true w.are_below-then-are_below.ensures w.value-is
+      | else-are_below w ↦ and_false d.are_below.ensures w.if-are_below.false w.value-is
+    ] in
+    let three : Decides d.if-are_below-2.value ((Below m classes_at marks_at k × Below m marks_at (marks_at + n) 2) × Below m (marks_at + n) cells_at 1) = elim d.if-are_below-2.branch [
+      | then-are_below-2 w ↦ and_true two w.if-are_below-2.true w.are_below-then-are_below-2.ensures w.value-is
+      | else-are_below-2 w ↦ and_false two w.if-are_below-2.false w.value-is
+    ] in
+    elim d.if-are_below-3.branch [
+      | then-are_below-3 w ↦ and_true three w.if-are_below-3.true w.are_below-then-are_below-3.ensures w.value-is
+      | else-are_below-3 w ↦ and_false three w.if-are_below-3.false w.value-is
+    ]
 
 pub returns-then-room-lt-ROOM : goal.returns-then-room-lt-ROOM
 returns-then-room-lt-ROOM c = fails (λ s. omega (arith, s.long))

@@ -10,7 +10,9 @@ pub loop-i-init : goal.loop-i-init
 loop-i-init c = (search rules, λ x h. absurd (omega arith))
 
 pub returns-then-x-y : goal.returns-then-x-y
-returns-then-x-y c = sym (ne_eqb _ _ (value_other _ _ c.loop-i.i c.loop-i-test.true (omega arith) (omega arith) (λ e. c.if-x-y.true (c.word-x.ensures.0 ∙ e ∙ sym c.word-y.ensures.0))))
+returns-then-x-y c =
+    let differ = value_other _ _ c.loop-i.i c.loop-i-test.true (omega arith) (omega arith) (λ e. c.if-x-y.true (c.word-x.ensures.0 ∙ e ∙ sym c.word-y.ensures.0)) in
+    sym (ne_eqb _ _ differ)
 
 pub loop-i-preserved : goal.loop-i-preserved
 loop-i-preserved c = (search rules, below_more _ _ c.loop-i.invariant.1 (sym c.word-x.ensures.0 ∙ c.if-x-y.false ∙ c.word-y.ensures.0))
