@@ -1,4 +1,5 @@
 use Prim.Native.Nat.{◌+◌, ◌*◌, ◌/◌, ◌<◌}
+use mathlib.Core.Path.{◌≡◌}
 use native.Mathlib.Omega.{arith}
 use borrow.Author.Rules.{rules}
 use mir.Syntax.{w64}
@@ -8,6 +9,15 @@ use Rattle.scope.specs.Limits.{byte_values}
 use Rattle.byte_runs.specs.Runs.{NoEnd}
 use Rattle.byte_runs.proofs.Ends.{left_start, left_from, left_none, left_end, before_last}
 use Rattle.byte_runs.proofs.end_of.Goals as goal
+use Rattle.byte_runs.proofs.end_of.Goals.{At-loop-rest}
+
+-- the word is passed
+passed : (c : At-loop-rest) → c.loop-rest.rest ≡ 0 → NoEnd c.args.ends c.args.b (64 * (c.loop-rest.w + 1))
+passed c z = left_none c.loop-rest.invariant.3 c.loop-rest.invariant.2 z
+
+-- and was not the last
+more : (c : At-loop-rest) → c.loop-rest.rest ≡ 0 → 64 * (c.loop-rest.w + 1) < byte_values
+more c z = before_last c.args.ends c.args.b _ c.requires.1 c.requires.0 (passed c z)
 
 pub loop-rest-init : goal.loop-rest-init
 loop-rest-init c =
@@ -16,19 +26,19 @@ loop-rest-init c =
 
 pub loop-rest-preserved : goal.loop-rest-preserved
 loop-rest-preserved c =
-    let passed : NoEnd c.args.ends c.args.b (64 * (c.loop-rest.w + 1)) = left_none c.loop-rest.invariant.3 c.loop-rest.invariant.2 c.loop-rest-test.true in
-    let more : 64 * (c.loop-rest.w + 1) < byte_values = before_last c.args.ends c.args.b _ c.requires.1 c.requires.0 (passed) in
-    let fit : Fits w64 (get_or c.args.ends (c.loop-rest.w + 1) 0) = search rules in
-    (more, omega (arith, c.loop-rest.invariant.1), passed, left_start _ _ _ (omega (arith, c.loop-rest.invariant.1)) fit.fits)
+    let i = (goal.at.loop-rest-preserved c).At-loop-rest in
+    let fit : Fits w64 (get_or c.args.ends (c.loop-rest.w + 1) 0) = search rules in (
+      more i c.loop-rest-test.true,
+      omega (arith, c.loop-rest.invariant.1),
+      passed i c.loop-rest-test.true,
+      left_start _ _ _ (omega (arith, c.loop-rest.invariant.1)) fit.fits,
+    )
 
 pub returns : goal.returns
 returns c = left_end c.loop-rest.invariant.3 c.loop-rest.invariant.2 c.loop-rest-test.false (omega (arith, c.loop-rest.invariant.0))
 
 pub bounds-ends-w-in-loop-rest : goal.bounds-ends-w-in-loop-rest
-bounds-ends-w-in-loop-rest c =
-    let passed : NoEnd c.args.ends c.args.b (64 * (c.loop-rest.w + 1)) = left_none c.loop-rest.invariant.3 c.loop-rest.invariant.2 c.loop-rest-test.true in
-    let more : 64 * (c.loop-rest.w + 1) < byte_values = before_last c.args.ends c.args.b _ c.requires.1 c.requires.0 (passed) in
-    omega (arith, more)
+bounds-ends-w-in-loop-rest c = omega (arith, more (goal.at.bounds-ends-w-in-loop-rest c).At-loop-rest c.loop-rest-test.true)
 
 pub overflow_cast-result : goal.overflow_cast-result
 overflow_cast-result c = omega (arith, (returns c).byte)

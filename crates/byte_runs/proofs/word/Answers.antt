@@ -1,6 +1,5 @@
-use Prim.Native.Nat.{◌+◌, ◌-◌, ◌<◌}
+use Prim.Native.Nat.{◌+◌, ◌-◌}
 use native.Mathlib.Omega.{arith}
-use lib.ListN.{get_or}
 use Rattle.byte_runs.proofs.Ends.{joining_none, joining_fits, joining_more, joining_all}
 use Rattle.byte_runs.proofs.word.Goals as goal
 
@@ -8,9 +7,7 @@ pub loop-i-init : goal.loop-i-init
 loop-i-init c = joining_none _ _
 
 pub loop-i-preserved : goal.loop-i-preserved
-loop-i-preserved c =
-    let byte : get_or c.args.bytes.now (c.args.at + (c.loop-i.i - 1)) 0 < 256 = (c.type_inv.bytes _).fits in
-    joining_more (c.loop-i.i - 1) (omega arith) c.loop-i.invariant (byte)
+loop-i-preserved c = joining_more (c.loop-i.i - 1) (omega arith) c.loop-i.invariant (c.type_inv.bytes _).fits
 
 pub returns : goal.returns
 returns c = joining_all c.loop-i-test.false c.loop-i.invariant
@@ -21,12 +18,6 @@ overflow_mul-x c = omega (arith, joining_fits (c.loop-i.i - 1) (omega arith) c.l
 pub overflow_add-x : goal.overflow_add-x
 overflow_add-x c = omega (arith, c.loop-i.invariant.few)
 
-pub overflow_cast-x : goal.overflow_cast-x
-overflow_cast-x c =
-    let byte : get_or c.args.bytes.now (c.args.at + (c.loop-i.i - 1)) 0 < 256 = (c.type_inv.bytes _).fits in
-    omega (arith, byte)
-
 pub overflow_add-x-in-loop-i : goal.overflow_add-x-in-loop-i
 overflow_add-x-in-loop-i c =
-    let byte : get_or c.args.bytes.now (c.args.at + (c.loop-i.i - 1)) 0 < 256 = (c.type_inv.bytes _).fits in
-    omega (arith, byte, joining_fits (c.loop-i.i - 1) (omega arith) c.loop-i.invariant)
+    omega (arith, (c.type_inv.bytes (c.args.at + (c.loop-i.i - 1))).fits, joining_fits (c.loop-i.i - 1) (omega arith) c.loop-i.invariant)
