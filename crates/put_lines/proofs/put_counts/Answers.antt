@@ -20,4 +20,7 @@ pub put_byte-requires : goal.put_byte-requires
 put_byte-requires c = omega (arith, simp length-append at c.requires)
 
 pub returns : goal.returns
-returns c = appended_join c.put_text-next.ensures (appended_join c.put_decimal-next.ensures (appended_join c.put_text-next-2.ensures (appended_join c.put_decimal-next-2.ensures c.put_byte.ensures)))
+returns c =
+    appended_join c.put_text-next.ensures
+    (appended_join c.put_decimal-next.ensures
+    (appended_join c.put_text-next-2.ensures (appended_join c.put_decimal-next-2.ensures c.put_byte.ensures)))
