@@ -27,14 +27,17 @@ pub hex_digit-requires-in-loop-i : goal.hex_digit-requires-in-loop-i
 hex_digit-requires-in-loop-i c = omega (arith, c.type_inv.word c.loop-i.i)
 
 pub put_byte-next-requires-in-loop-i : goal.put_byte-next-requires-in-loop-i
-put_byte-next-requires-in-loop-i c = let e = c.put_byte-next.ensures in omega (arith, e.place, e.size, c.loop-i.invariant.3.size, shown_length c.args.word.now c.loop-i.invariant.0)
+put_byte-next-requires-in-loop-i c =
+    let e = c.put_byte-next.ensures in
+    omega (arith, e.place, e.size, c.loop-i.invariant.3.size, shown_length c.args.word.now c.loop-i.invariant.0)
 
 pub loop-i-preserved : goal.loop-i-preserved
 loop-i-preserved c = (
   c.loop-i.invariant.0,
   omega arith,
   omega (arith, c.put_byte-next.ensures.place, c.put_byte-next-in-loop-i.ensures.place),
-  appended_hexes c.args.word.now c.loop-i.i c.loop-i.invariant.3 c.loop-i-test.true c.hex_digit.ensures c.hex_digit-in-loop-i.ensures c.put_byte-next.ensures c.put_byte-next-in-loop-i.ensures,
+  appended_hexes c.args.word.now c.loop-i.i c.loop-i.invariant.3 c.loop-i-test.true c.hex_digit.ensures c.hex_digit-in-loop-i.ensures
+      c.put_byte-next.ensures c.put_byte-next-in-loop-i.ensures,
 )
 
 pub returns : goal.returns
