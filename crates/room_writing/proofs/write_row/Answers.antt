@@ -7,7 +7,6 @@ use lib.ListN.{get_or}
 use Rattle.scope.specs.Limits.{class_limit}
 use Rattle.scope.specs.Machines.Room.{cell_of}
 use Rattle.buffers.proofs.OneMore.{stored_from, stored_next}
-use Rattle.room.proofs.HeadAndParts.{cell_at}
 use Rattle.room_writing.proofs.write_row.Goals as goal
 
 pub overflow_mul-row : goal.overflow_mul-row
@@ -18,42 +17,12 @@ overflow_mul-row c =
 pub loop-c-init : goal.loop-c-init
 loop-c-init c = (search rules, stored_from _ _ _)
 
-pub overflow_cast-to : goal.overflow_cast-to
-overflow_cast-to c =
-    let p = cell_at c.requires.sound_table.0 c.head-wide.ensures.1 c.requires.sound_table.1 (c.requires.k_le_class_limit.1 c.loop-c.c c.loop-c-test.true (omega arith)) in
-    omega (arith, p.fits)
-
-pub overflow_add-to : goal.overflow_add-to
-overflow_add-to c =
-    let p = cell_at c.requires.sound_table.0 c.head-wide.ensures.1 c.requires.sound_table.1 (c.requires.k_le_class_limit.1 c.loop-c.c c.loop-c-test.true (omega arith)) in
-    omega (arith, p.fits)
-
-pub overflow_add-to-in-loop-c : goal.overflow_add-to-in-loop-c
-overflow_add-to-in-loop-c c =
-    let p = cell_at c.requires.sound_table.0 c.head-wide.ensures.1 c.requires.sound_table.1 (c.requires.k_le_class_limit.1 c.loop-c.c c.loop-c-test.true (omega arith)) in
-    omega (arith, p.fits)
-
-pub bounds-from-row : goal.bounds-from-row
-bounds-from-row c =
-    let p = cell_at c.requires.sound_table.0 c.head-wide.ensures.1 c.requires.sound_table.1 (c.requires.k_le_class_limit.1 c.loop-c.c c.loop-c-test.true (omega arith)) in
-    omega (arith, p.fits, p.long)
-
-pub overflow_cast-to-in-loop-c : goal.overflow_cast-to-in-loop-c
-overflow_cast-to-in-loop-c c =
-    let p = cell_at c.requires.sound_table.0 c.head-wide.ensures.1 c.requires.sound_table.1 (c.requires.k_le_class_limit.1 c.loop-c.c c.loop-c-test.true (omega arith)) in
-    omega (arith, p.inside, c.requires.sound_table.0.few_states)
-
-pub bounds-into-from : goal.bounds-into-from
-bounds-into-from c =
-    let p = cell_at c.requires.sound_table.0 c.head-wide.ensures.1 c.requires.sound_table.1 (c.requires.k_le_class_limit.1 c.loop-c.c c.loop-c-test.true (omega arith)) in
-    omega (arith, p.inside, c.requires.sound_table.0.few_states)
-
 pub loop-c-preserved : goal.loop-c-preserved
 loop-c-preserved c =
     let g = c.args in (
       search rules,
-      stored_next (λ x. get_or g.into.now (cell_of g.from.now g.state (get_or g.leader.now x 0)) 0) (omega (arith, c.requires.k_le_class_limit.2, c.loop-c-test.true))
-          (rw c.head-wide.ensures.1 refl) c.loop-c.invariant.1,
+      stored_next (λ x. get_or g.into.now (cell_of g.from.now g.state (get_or g.leader.now x 0)) 0)
+          (omega (arith, c.requires.k_le_class_limit.2, c.loop-c-test.true)) (rw c.head-wide.ensures.1 refl) c.loop-c.invariant.1,
     )
 
 pub returns : goal.returns
