@@ -13,6 +13,11 @@ use Rattle.ways.proofs.HeldClasses.{held_below, held_some}
 use Rattle.soundness.specs.WaysJudged.{four, Lowered, RightKeys}
 use Rattle.soundness.proofs.WaysJudged.{ways_judged}
 use Rattle.soundness.proofs.are_ways.Goals as goal
+use Rattle.soundness.proofs.are_ways.Goals.{After-loop-i}
+
+-- all classes are passed
+all : (c : After-loop-i) → c.loop-i.i ≡ c.held-count.result
+all c = omega (arith, c.loop-i.invariant.1, c.loop-i-test.false)
 
 judged : {m l least : List ℕ} {i n s : ℕ} {t : Bool} → SoundTable m → ((j : ℕ) → get_or m j 0 < byte_values) → HeldClasses m l n
     → i ≡ n → Lowered m l i (states_of m) least → s ≡ states_of m
@@ -31,19 +36,12 @@ lower-requires-clause-four_bound c =
     let four_left : c.loop-i.i + four ≤ c.held-count.result = omega (arith, c.loop-i.invariant.0, c.loop-i-test.true) in
     (omega (arith, h.few), λ j x. held_below c.requires h j (omega arith))
 
-pub loop-i-preserved : goal.loop-i-preserved
-loop-i-preserved c =
-    let four_left : c.loop-i.i + four ≤ c.held-count.result = omega (arith, c.loop-i.invariant.0, c.loop-i-test.true) in
-    (omega (arith, c.loop-i.invariant.0), four_left, c.lower.ensures)
-
 pub returns-then-are_right : goal.returns-then-are_right
 returns-then-are_right c =
-    let all : c.loop-i.i ≡ c.held-count.result = omega (arith, c.loop-i.invariant.1, c.loop-i-test.false) in
-    judged c.requires (λ j. omega (arith, c.type_inv.room j)) c.held-count.ensures all c.loop-i.invariant.2 c.head-n.ensures.0
-    (and_true c.are_right.ensures c.if-are_right.true c.are_below.ensures refl)
+    judged c.requires (λ j. omega (arith, c.type_inv.room j)) c.held-count.ensures (all (goal.at.returns-then-are_right c).After-loop-i) c.loop-i.invariant.2
+    c.head-n.ensures.0 (and_true c.are_right.ensures c.if-are_right.true c.are_below.ensures refl)
 
 pub returns-else-are_right : goal.returns-else-are_right
 returns-else-are_right c =
-    let all : c.loop-i.i ≡ c.held-count.result = omega (arith, c.loop-i.invariant.1, c.loop-i-test.false) in
-    judged c.requires (λ j. omega (arith, c.type_inv.room j)) c.held-count.ensures all c.loop-i.invariant.2 c.head-n.ensures.0
-    (and_false c.are_right.ensures c.if-are_right.false refl)
+    judged c.requires (λ j. omega (arith, c.type_inv.room j)) c.held-count.ensures (all (goal.at.returns-else-are_right c).After-loop-i) c.loop-i.invariant.2
+    c.head-n.ensures.0 (and_false c.are_right.ensures c.if-are_right.false refl)
