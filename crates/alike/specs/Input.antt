@@ -6,6 +6,7 @@
 --   Stopped r: nothing came any more, or both lines are ended, or there were so many reads
 use Rattle.std.specs.Prelude.{ℕ, ◌+◌, ◌≡◌, List, length}
 use Rattle.scope.specs.Limits.{pattern_limit}
+use Rattle.take_lines.specs.declared.Line.{Line}
 use Rattle.take_lines.specs.declared.Taking.{Taking}
 use Rattle.take_lines.specs.Taking.{Taken}
 use Rattle.alike.specs.declared.Reading.{Reading}
@@ -25,5 +26,5 @@ most_reads = 18446744073709551615
 -- "an unended last line counts as it stands, .. and further lines are not read"
 pub data Stopped (r : Reading) : Type 0 where
   nothing_came : r.got ≡ 0 → Stopped r
-  both_ended : r.taking.line ≡ 2 → Stopped r
+  both_ended : r.taking.line ≡ Line.Further → Stopped r
   most_read : r.reads ≡ most_reads → Stopped r

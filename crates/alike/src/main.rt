@@ -8,7 +8,7 @@ ghost use Rattle.alike.specs.Input.{Lines, Stopped};
 
 use std::io;
 use std::io::{Read, Stdin, Write};
-use take_lines::Taking;
+use take_lines::{Line, Taking};
 
 // A line has one byte more than a pattern may have, so that a line that is too long is a text that is too long.
 const LINE: usize = scope::Machine::PATTERN + 1;
@@ -17,7 +17,7 @@ const LINE: usize = scope::Machine::PATTERN + 1;
 const BLOCK: usize = 4096;
 
 // How many blocks are read at most, since a loop must end. No input is as long.
-const READS: usize = 18446744073709551615;
+const READS: usize = usize::MAX;
 
 // What was taken, how many bytes the last read gave, and how many reads there were.
 #[derive(Clone, Copy)]
@@ -40,24 +40,25 @@ fn take_lines(input: &mut Stdin, left: &mut [u8], right: &mut [u8]) -> Reading
     ensures lines { Lines result.taking left.new right.new }
     ensures stopped { Stopped result }
 {
-    let mut taking = take_lines::begin();
-    let mut reads: usize = 0;
-    loop {
+    let mut reading = Reading {
+        taking: take_lines::begin(),
+        got: 0,
+        reads: 0,
+    };
+    for reads in 0..READS {
         let mut block = [0u8; BLOCK];
         let got = read_block(input, &mut block);
-        taking = take_lines::take_block(taking, &block[..got], left, right);
-        reads += 1;
-        let so_far = Reading { taking, got, reads };
-        if got == 0 {
-            return so_far;
-        }
-        if taking.line == 2 {
-            return so_far;
-        }
-        if reads == READS {
-            return so_far;
+        let taking = take_lines::take_block(reading.taking, &block[..got], left, right);
+        reading = Reading {
+            taking,
+            got,
+            reads: reads + 1,
+        };
+        if got == 0 || taking.line == Line::Further {
+            return reading;
         }
     }
+    reading
 }
 
 fn main(rt: HostRuntime) -> io::Result<()> {

@@ -1,53 +1,70 @@
 -- Parts numbered while rows are read: order and number undo each other, and the places that are read number their parts on first arrival. A place stands in a row that has a
 -- number, so each number is led to from a row before its own.
 --   swept_none, swept_old, swept_new: nothing is read; one place more, that leads to a number or to none
---   swept_few, swept_fewer, numbers_fit: no more numbers than states, fewer where a part has none; none is above state_limit
---   RowSweep, RowPlace, row_first, row_place, row_old, row_new, row_fewer, row_end: the same of a row whose cells begin at a place of the table
---   numbers_none, numbers_old, numbers_new: the numbers of no state; of one more whose part has none, or has one
+--   none_of, some_of, given: an option that is None, or is not, or is below what it is without a value
+--   swept_few, swept_fewer: no more numbers than states, fewer where a part has none
+--   RowSweep, row_cell, row_lead, row_old, row_new, row_fewer, row_end: the same of a row, as it is read
+--   numbers_front: the numbers of all states are those of the first of a list
 use Prim.Native.Nat.{ℕ, ◌+◌, ◌*◌, ◌/◌, ◌≤◌, ◌<◌}
 use mathlib.Core.Path.{◌≡◌, refl, sym, ap, ◌∙◌}
-use mathlib.Core.Logic.{inl, inr, ⊎_elim}
+use mathlib.Core.Bool.{Bool, true, false, true≢false, false≢true}
 use mathlib.Core.List.{List}
 use native.Mathlib.Nat.{mul-le-mul_right, add-mul, div-lt_iff_lt-mul}
 use native.Mathlib.Omega.{arith}
 use native.Mathlib.Decide.{ℕ_discrete}
 use borrow.Author.Count.{below_more}
-use lib.ListN.{length, get_or, set, replicate, length-set, length-replicate, get_or-replicate}
+use lib.ListN.{length, get_or, set, take, replicate, length-set, length-replicate, get_or-replicate}
 use lib.Seq.{get_or-set_same, get_or-set_other}
-use Rattle.scope.specs.Limits.{class_limit, state_limit, cells_at, ways_at, room_bytes}
-use Rattle.scope.specs.Machines.Room.{states_of, classes_of, cell_of, machine, Below, SoundTable}
+use Rattle.std.specs.Option.{is_some}
+use Rattle.std.specs.Prelude.{Option, Some, None, not, unwrap_or}
+use Rattle.std.proofs.lemmas.List.{length-take, get_or-take}
+use Rattle.scope.specs.Limits.{state_limit}
+use Rattle.scope.specs.Machines.Room.{states_of, classes_of, cell_of, machine, SoundTable}
 use Rattle.buffers.proofs.Numbered.{numbered_none, numbered_old, numbered_new, numbered_few, numbered_fewer}
 use Rattle.refinement.specs.Refined.{PartsOf}
 use Rattle.room.proofs.HeadAndParts.{cell_known}
 use Rattle.smallest_plan.proofs.TableRows.{flat}
-use Rattle.arrivals.specs.Swept.{leads, placed, Sweepable, Back, Forth, Earlier, PlacesSwept, Numbers}
+use Rattle.arrivals.specs.Swept.{leads, placed, number_of, Sweepable, Back, Forth, Earlier, PlacesSwept, Numbers}
+
+-- ---- options
+
+-- `is_none` answered true
+pub none_of : (o : Option ℕ) {r : Bool} → is_some o ≡ not r → r ≡ true → o ≡ None
+none_of (Some v) e t = let x = rw t at e in absurd (true≢false x)
+none_of None e t = refl
+
+-- it answered false
+pub some_of : (o : Option ℕ) {r : Bool} → is_some o ≡ not r → r ≡ false → (v : ℕ) × (o ≡ Some v)
+some_of (Some v) e t = (v, refl)
+some_of None e t = let x = rw t at e in absurd (false≢true x)
+
+-- below k, where k stands for none
+pub given : (o : Option ℕ) (k : ℕ) → unwrap_or o k < k → o ≡ Some (unwrap_or o k)
+given (Some v) k h = refl
+given None k h = absurd (omega arith)
 
 -- ---- how many numbers there are
 
-module _ {a part column order number : List ℕ} {kinds count e : ℕ} (s : SoundTable a) (w : PlacesSwept a part column order number kinds count e) where
+module _ {a part column order : List ℕ} {number : List (Option ℕ)} {count e : ℕ} (s : SoundTable a) (w : PlacesSwept a part column order number count e) where
   -- no more numbers than states
   pub swept_few : count ≤ states_of a
   swept_few = numbered_few w.numbered (states_of a) (λ t. t) (λ v h. (w.back v h).inside) (λ v u g h z. z)
 
   -- a part with no number is none of theirs
-  other : (t : ℕ) → get_or number t 0 ≡ state_limit → (v : ℕ) → v < count → get_or order v 0 ≡ t → ⊥
-  other t z v h y = omega (arith, (w.back v h).own, ap (λ (i : ℕ). get_or number i 0) y, z, swept_few, s.few_states)
+  other : (t : ℕ) → get_or number t None ≡ None → (v : ℕ) → v < count → get_or order v 0 ≡ t → ⊥
+  other t z v h y = let o = (w.back v h).own in let x = rw y at o in cc
 
   -- so where there is one, there are fewer: it could have the next
-  pub swept_fewer : (t : ℕ) → t < states_of a → get_or number t 0 ≡ state_limit → count < states_of a
+  pub swept_fewer : (t : ℕ) → t < states_of a → get_or number t None ≡ None → count < states_of a
   swept_fewer t h z = numbered_fewer w.numbered (states_of a) (λ t. t) (λ v l. (w.back v l).inside) (λ v u g l y. y) t h (other t z)
-
--- numbers are below state_limit, and a part without one has that
-pub numbers_fit : {a part column order number : List ℕ} {kinds count e : ℕ} → SoundTable a → PlacesSwept a part column order number kinds count e → Below number 0 (states_of a) (state_limit + 1)
-numbers_fit s w t h g = ⊎_elim (λ x. omega arith) (λ x. omega (arith, x.below, swept_few s w, s.few_states)) (w.forth t h)
 
 -- ---- one place more
 
-module _ {a part column order number : List ℕ} {kinds count q i : ℕ} (s : SoundTable a) (f : PartsOf (machine a) part) (w : PlacesSwept a part column order number kinds count (q * kinds + i))
-    (h : q < count) (m : i < kinds) (k : get_or column i 0 < classes_of a) where
+module _ {a part column order : List ℕ} {number : List (Option ℕ)} {count q i : ℕ} (s : SoundTable a) (f : PartsOf (machine a) part) (w : PlacesSwept a part column order number count (q * length column + i))
+    (h : q < count) (m : i < length column) (k : get_or column i 0 < classes_of a) where
   -- the place is that of the row q and the kind i
-  is_place : (l : List ℕ) → placed a part column l kinds (q * kinds + i) ≡ leads a part l q (get_or column i 0)
-  is_place l = rw ((flat kinds q i m).0, (flat kinds q i m).1) refl
+  is_place : (l : List ℕ) → placed a part column l (q * length column + i) ≡ leads a part l q (get_or column i 0)
+  is_place l = rw ((flat (length column) q i m).0, (flat (length column) q i m).1) refl
 
   read_in : cell_of a (get_or order q 0) (get_or column i 0) < states_of a
   read_in = (cell_known s (get_or order q 0) (get_or column i 0) (w.back q h).inside k).1
@@ -56,40 +73,34 @@ module _ {a part column order number : List ℕ} {kinds count q i : ℕ} (s : So
   lead_in = f.inside _ read_in
 
   -- the place leads to a part with a number
-  pub swept_old : (get_or number (leads a part order q (get_or column i 0)) 0 ≡ state_limit → ⊥) → PlacesSwept a part column order number kinds count (q * kinds + i + 1)
-  swept_old n = record {
+  pub swept_old : (v : ℕ) → get_or number (leads a part order q (get_or column i 0)) None ≡ Some v → PlacesSwept a part column order number count (q * length column + i + 1)
+  swept_old v e = record {
     order_size = w.order_size;
     number_size = w.number_size;
     start = w.start;
     back = w.back;
     forth = w.forth;
-    numbered = numbered_old w.numbered (placed a part column order kinds) (λ x. get_or number (placed a part column order kinds x) 0) (λ v. get_or order v 0)
-        (λ x g. refl) (λ x g. refl) (λ v g. refl) (rw (is_place order) here.below) (rw (is_place order) here.back);
+    numbered = numbered_old w.numbered (placed a part column order) (λ x. number_of number (placed a part column order x)) (λ v. get_or order v 0)
+        (λ x g. refl) (λ x g. refl) (λ v g. refl) (rw (is_place order, e) here.below) (rw (is_place order, e) here.back);
     above = w.above;
   }
     where
-      here : Forth order number count (leads a part order q (get_or column i 0))
-      here = ⊎_elim (λ x. absurd (n x)) (λ x. x) (w.forth _ lead_in)
+      here : Forth order count (leads a part order q (get_or column i 0)) v
+      here = w.forth _ v lead_in e
 
   -- the place leads to a part without one: it takes the next
-  pub swept_new : get_or number (leads a part order q (get_or column i 0)) 0 ≡ state_limit
-      → PlacesSwept a part column (set order count (leads a part order q (get_or column i 0))) (set number (leads a part order q (get_or column i 0)) count) kinds (count + 1) (q * kinds + i + 1)
+  pub swept_new : get_or number (leads a part order q (get_or column i 0)) None ≡ None
+      → PlacesSwept a part column (set order count (leads a part order q (get_or column i 0))) (set number (leads a part order q (get_or column i 0)) (Some count)) (count + 1) (q * length column + i + 1)
   swept_new e = record {
     order_size = length-set order count t ∙ w.order_size;
-    number_size = length-set number t count ∙ w.number_size;
+    number_size = length-set number t (Some count) ∙ w.number_size;
     start = kept 0 (omega arith) ∙ w.start;
     back = below_more (λ (v : ℕ). Back a part order' number' v) count back (record { inside = rw at lead_in; name = rw at (f.name _ read_in); own = rw at new });
-    forth = λ u l. elim (ℕ_discrete u t) [
-      | yes z ↦ inr (rw z (record { below = omega (arith, new); back = rw new at }))
-      | no z ↦ elim (w.forth u l) [
-        | inl x ↦ inl (same u z ∙ x)
-        | inr x ↦ inr (record { below = omega (arith, same u z, x.below); back = rw (same u z) (kept (get_or number u 0) x.below ∙ x.back) })
-      ]
-    ];
-    numbered = numbered_new w.numbered (placed a part column order' kinds) (λ x. get_or number' (placed a part column order' kinds x) 0) (λ v. get_or order' v 0)
-        (λ x l. as_read x (row x l)) numbers kept (rw this new) (at ∙ sym this) refl (λ v l z. other s w t e v l (z ∙ this));
-    above = below_more (λ (v : ℕ). 0 < v → Earlier a part column order' kinds v) count above
-        (λ g. record { place = q * kinds + i; row = omega (arith, mul-le-mul_right kinds h); here = this ∙ sym at });
+    forth = forth;
+    numbered = numbered_new w.numbered (placed a part column order') (λ x. number_of number' (placed a part column order' x)) (λ v. get_or order' v 0)
+        (λ x l. as_read x (row x l)) numbers kept (rw (this, new) refl) (at ∙ sym this) refl (λ v l z. other s w t e v l (z ∙ this));
+    above = below_more (λ (v : ℕ). 0 < v → Earlier a part column order' v) count above
+        (λ g. record { place = q * length column + i; row = omega (arith, mul-le-mul_right (length column) h); here = this ∙ sym at });
   }
     where
       t : ℕ
@@ -98,8 +109,8 @@ module _ {a part column order number : List ℕ} {kinds count q i : ℕ} (s : So
       order' : List ℕ
       order' = set order count t
 
-      number' : List ℕ
-      number' = set number t count
+      number' : List (Option ℕ)
+      number' = set number t (Some count)
 
       few : count < state_limit
       few = omega (arith, swept_fewer s w t lead_in e, s.few_states)
@@ -110,170 +121,133 @@ module _ {a part column order number : List ℕ} {kinds count q i : ℕ} (s : So
       kept : (v : ℕ) → v < count → get_or order' v 0 ≡ get_or order v 0
       kept v l = get_or-set_other order count v t 0 (λ z. omega arith)
 
-      new : get_or number' t 0 ≡ count
-      new = get_or-set_same number t count 0 (omega (arith, lead_in, s.few_states, w.number_size))
+      new : get_or number' t None ≡ Some count
+      new = get_or-set_same number t (Some count) None (omega (arith, lead_in, s.few_states, w.number_size))
 
-      same : (u : ℕ) → (u ≡ t → ⊥) → get_or number' u 0 ≡ get_or number u 0
-      same u n = get_or-set_other number t u count 0 n
+      same : (u : ℕ) → (u ≡ t → ⊥) → get_or number' u None ≡ get_or number u None
+      same u n = get_or-set_other number t u (Some count) None n
 
       -- a part with a number is another one, and keeps its number
-      numbered_still : (u : ℕ) → get_or number u 0 < count → get_or number' u 0 ≡ get_or number u 0
-      numbered_still u l = same u (λ z. omega (arith, ap (λ (x : ℕ). get_or number x 0) z, e, few))
+      numbered_still : (u : ℕ) → number_of number u < count → get_or number' u None ≡ get_or number u None
+      numbered_still u l = same u (λ z. let y : number_of number t ≡ state_limit = rw e refl in omega (arith, ap (number_of number) z, y, few))
 
-      some : 0 < kinds
+      forth : (u v : ℕ) → u < states_of a → get_or number' u None ≡ Some v → Forth order' (count + 1) u v
+      forth u v l n = elim (ℕ_discrete u t) [
+        | yes z ↦ (let y = rw (z, new) at n in let g : v ≡ count = cc in record { below = omega arith; back = rw (g, z) at })
+        | no z ↦ (let g = w.forth u v l (sym (same u z) ∙ n) in record { below = omega (arith, g.below); back = kept v g.below ∙ g.back })
+      ]
+
+      some : 0 < length column
       some = omega arith
 
       -- a place that is read stands in a row with a number
-      row : (x : ℕ) → x < q * kinds + i → x / kinds < count
+      row : (x : ℕ) → x < q * length column + i → x / length column < count
       row x l =
-          let y : x < (q + 1) * kinds = omega (arith, add-mul q 1 kinds) in
-          let r : x / kinds < q + 1 = (div-lt_iff_lt-mul some).1 y in
+          let y : x < (q + 1) * length column = omega (arith, add-mul q 1 (length column)) in
+          let r : x / length column < q + 1 = (div-lt_iff_lt-mul some).1 y in
           omega arith
 
-      as_read : (x : ℕ) → x / kinds < count → placed a part column order' kinds x ≡ placed a part column order kinds x
-      as_read x l = rw (kept (x / kinds) l) refl
+      as_read : (x : ℕ) → x / length column < count → placed a part column order' x ≡ placed a part column order x
+      as_read x l = rw (kept (x / length column) l) refl
 
-      this : placed a part column order' kinds (q * kinds + i) ≡ t
+      this : placed a part column order' (q * length column + i) ≡ t
       this = is_place order' ∙ rw (kept q h) refl
 
-      numbers : (x : ℕ) → x < q * kinds + i → get_or number' (placed a part column order' kinds x) 0 ≡ get_or number (placed a part column order kinds x) 0
-      numbers x l = rw (as_read x (row x l)) (numbered_still (placed a part column order kinds x) (w.numbered.below x l))
+      numbers : (x : ℕ) → x < q * length column + i → number_of number' (placed a part column order' x) ≡ number_of number (placed a part column order x)
+      numbers x l = rw (as_read x (row x l), numbered_still (placed a part column order x) (w.numbered.below x l)) refl
 
       back : (v : ℕ) → v < count → Back a part order' number' v
       back v l = let b = w.back v l in record {
         inside = rw (kept v l) b.inside;
         name = rw (kept v l) b.name;
-        own = rw (kept v l) (numbered_still (get_or order v 0) (omega (arith, b.own)) ∙ b.own);
+        own = rw (kept v l) (numbered_still (get_or order v 0) (rw b.own l) ∙ b.own);
       }
 
-      above : (v : ℕ) → v < count → 0 < v → Earlier a part column order' kinds v
+      above : (v : ℕ) → v < count → 0 < v → Earlier a part column order' v
       above v l g = let b = w.above v l g in
-          let r : b.place / kinds < v = (div-lt_iff_lt-mul some).1 b.row in
+          let r : b.place / length column < v = (div-lt_iff_lt-mul some).1 b.row in
           record { place = b.place; row = b.row; here = as_read b.place (omega arith) ∙ b.here ∙ sym (kept v l) }
 
 -- nothing is read, and the part of the state 0 has the number 0
-pub swept_none : (a part column order : List ℕ) (kinds : ℕ) → SoundTable a → PartsOf (machine a) part → length order ≡ state_limit
-    → PlacesSwept a part column (set order 0 (get_or part 0 0)) (set (replicate state_limit state_limit) (get_or part 0 0) 0) kinds 1 (0 * kinds)
-swept_none a part column order kinds s f e = record {
+pub swept_none : (a part column order : List ℕ) → SoundTable a → PartsOf (machine a) part → length order ≡ state_limit
+    → PlacesSwept a part column (set order 0 (get_or part 0 0)) (set (replicate state_limit None) (get_or part 0 0) (Some 0)) 1 (0 * length column)
+swept_none a part column order s f e = record {
   order_size = length-set order 0 p ∙ e;
-  number_size = length-set (replicate state_limit state_limit) p 0 ∙ size;
+  number_size = length-set none p (Some 0) ∙ size;
   start = at;
   back = λ v l. let z : v ≡ 0 = omega arith in rw z (record { inside = rw at inside; name = rw at (f.name 0 s.some_state); own = rw at new });
-  forth = λ t l. elim (ℕ_discrete t p) [
-    | yes z ↦ inr (rw z (record { below = omega (arith, new); back = rw new at }))
-    | no z ↦ inl (get_or-set_other (replicate state_limit state_limit) p t 0 0 z ∙ get_or-replicate state_limit t state_limit 0 (omega (arith, s.few_states)))
+  forth = λ t v l n. elim (ℕ_discrete t p) [
+    | yes z ↦ (let y = rw (z, new) at n in let g : v ≡ 0 = cc in record { below = omega arith; back = rw (g, z) at })
+    | no z ↦ (let y = sym (get_or-set_other none p t (Some 0) None z ∙ get_or-replicate state_limit t None None (omega (arith, s.few_states))) ∙ n in cc)
   ];
-  numbered = let z : 0 * kinds ≡ 0 = omega arith in rw z (numbered_none (omega arith));
+  numbered = let z : 0 * length column ≡ 0 = omega arith in rw z (numbered_none (omega arith));
   above = λ v l g. absurd (omega arith);
 }
   where
     p : ℕ
     p = get_or part 0 0
 
+    none : List (Option ℕ)
+    none = replicate state_limit None
+
     inside : p < states_of a
     inside = f.inside 0 s.some_state
 
-    size : length {A = ℕ} (replicate state_limit state_limit) ≡ state_limit
-    size = length-replicate {A = ℕ} state_limit state_limit
+    size : length none ≡ state_limit
+    size = length-replicate {A = Option ℕ} state_limit None
 
     at : get_or (set order 0 p) 0 0 ≡ p
     at = get_or-set_same order 0 p 0 (omega (arith, e))
 
-    new : ◌≡◌ {A = ℕ} (get_or (set (replicate state_limit state_limit) p 0) p 0) 0
-    new = get_or-set_same (replicate state_limit state_limit) p 0 0 (omega (arith, inside, s.few_states, size))
+    new : get_or (set none p (Some 0)) p None ≡ Some 0
+    new = get_or-set_same none p (Some 0) None (omega (arith, inside, s.few_states, size))
 
--- ---- a row, as it is read: its cells begin at `row` of the table
+-- ---- a row, as it is read: it is that of the state `state` of the room
 
-pub record RowSweep (a part column order number : List ℕ) (kinds count q i row : ℕ) : Type 0 where
-  pub in_row : i ≤ kinds
+pub record RowSweep (a part column order : List ℕ) (number : List (Option ℕ)) (count q i state : ℕ) : Type 0 where
   pub in_rows : q < count
-  pub is_row : row ≡ get_or order q 0 * classes_of a
-  pub swept : PlacesSwept a part column order number kinds count (q * kinds + i)
+  pub is_state : state ≡ get_or order q 0
+  pub swept : PlacesSwept a part column order number count (q * length column + i)
 
--- the row begins
-pub row_first : {a part column order number : List ℕ} {kinds count : ℕ} (q : ℕ) → PlacesSwept a part column order number kinds count (q * kinds) → PlacesSwept a part column order number kinds count (q * kinds + 0)
-row_first {kinds = kinds} q w = let z : q * kinds + 0 ≡ q * kinds = omega arith in rw z w
-
--- what is read at the kind i: a column, a cell, a part and its number
-pub record RowPlace (a part column number : List ℕ) (row i : ℕ) : Type 0 where
-  pub column_fits : get_or column i 0 < class_limit
-  pub place_fits : cells_at + (row + get_or column i 0) < ways_at
-  pub long : room_bytes ≤ length a
-  pub cell_fits : get_or a (cells_at + (row + get_or column i 0)) 0 < state_limit
-  pub part_fits : get_or part (get_or a (cells_at + (row + get_or column i 0)) 0) 0 < state_limit
-  pub number_fits : get_or number (get_or part (get_or a (cells_at + (row + get_or column i 0)) 0) 0) 0 ≤ state_limit
-
-module _ {a part column order number : List ℕ} {kinds count q i row : ℕ} (d : Sweepable a part column kinds) (r : RowSweep a part column order number kinds count q i row) where
+module _ {a part column order : List ℕ} {number : List (Option ℕ)} {count q i state : ℕ} (d : Sweepable a part column) (r : RowSweep a part column order number count q i state) where
   -- the row ends
-  pub row_end : i ≡ kinds → PlacesSwept a part column order number kinds count ((q + 1) * kinds)
-  row_end z = let y : q * kinds + i ≡ (q + 1) * kinds = omega (arith, add-mul q 1 kinds) in rw y at r.swept
+  pub row_end : i ≡ length column → PlacesSwept a part column order number count ((q + 1) * length column)
+  row_end z = let y : q * length column + i ≡ (q + 1) * length column = omega (arith, add-mul q 1 (length column)) in rw y at (r.swept)
 
-  module _ (h : i < kinds) where
-    next : q * kinds + i + 1 ≡ q * kinds + (i + 1)
+  -- the cell of the kind i, in the row
+  pub row_cell : (row : List ℕ) → ((u : ℕ) → u < classes_of a → get_or row u 0 ≡ cell_of a state u) → i < length column → get_or row (get_or column i 0) 0 ≡ cell_of a state (get_or column i 0)
+  row_cell row f h = f (get_or column i 0) (d.columns i h (omega arith))
+
+  -- p: the state to which the kind i leads
+  module _ (h : i < length column) {p : ℕ} (e : p ≡ cell_of a state (get_or column i 0)) where
+    next : q * length column + i + 1 ≡ q * length column + (i + 1)
     next = omega arith
 
     column_in : get_or column i 0 < classes_of a
     column_in = d.columns i h (omega arith)
 
-    is_lead : leads a part order q (get_or column i 0) ≡ get_or part (get_or a (cells_at + (row + get_or column i 0)) 0) 0
-    is_lead = rw r.is_row refl
+    is_lead : leads a part order q (get_or column i 0) ≡ get_or part p 0
+    is_lead = rw (e, r.is_state) refl
 
-    lead_below : get_or part (get_or a (cells_at + (row + get_or column i 0)) 0) 0 < states_of a
-    lead_below = rw (← is_lead) (lead_in d.sound d.parts r.swept r.in_rows h column_in)
+    pub row_lead : get_or part p 0 < state_limit
+    row_lead = omega (arith, is_lead, lead_in d.sound d.parts r.swept r.in_rows h column_in, d.sound.few_states)
 
-    cell : (cells_at + (row + get_or column i 0) < ways_at) × (get_or a (cells_at + (row + get_or column i 0)) 0 < states_of a)
-    cell = rw r.is_row (cell_known d.sound (get_or order q 0) (get_or column i 0) (r.swept.back q r.in_rows).inside column_in)
+    pub row_old : (v : ℕ) → get_or number (get_or part p 0) None ≡ Some v → RowSweep a part column order number count q (i + 1) state
+    row_old v n = record { in_rows = r.in_rows; is_state = r.is_state; swept = rw next at (swept_old d.sound d.parts r.swept r.in_rows h column_in v (rw is_lead n)) }
 
-    pub row_place : RowPlace a part column number row i
-    row_place = record {
-      column_fits = omega (arith, column_in, d.sound.few_classes);
-      place_fits = cell.0;
-      long = d.sound.long;
-      cell_fits = omega (arith, cell.1, d.sound.few_states);
-      part_fits = omega (arith, lead_below, d.sound.few_states);
-      number_fits = omega (arith, numbers_fit d.sound r.swept _ lead_below (omega arith));
-    }
-
-    pub row_old : (get_or number (get_or part (get_or a (cells_at + (row + get_or column i 0)) 0) 0) 0 ≡ state_limit → ⊥) → RowSweep a part column order number kinds count q (i + 1) row
-    row_old n = record {
-      in_row = omega arith;
-      in_rows = r.in_rows;
-      is_row = r.is_row;
-      swept = rw next at (swept_old d.sound d.parts r.swept r.in_rows h column_in (rw is_lead n));
-    }
-
-    module _ (e : get_or number (get_or part (get_or a (cells_at + (row + get_or column i 0)) 0) 0) 0 ≡ state_limit) where
+    module _ (n : get_or number (get_or part p 0) None ≡ None) where
       pub row_fewer : count < state_limit
-      row_fewer = omega (arith, swept_fewer d.sound r.swept _ lead_below e, d.sound.few_states)
+      row_fewer = omega (arith, swept_fewer d.sound r.swept (get_or part p 0) (rw (← is_lead) (lead_in d.sound d.parts r.swept r.in_rows h column_in)) n, d.sound.few_states)
 
-      pub row_new :
-          RowSweep a part column (set order count (get_or part (get_or a (cells_at + (row + get_or column i 0)) 0) 0))
-          (set number (get_or part (get_or a (cells_at + (row + get_or column i 0)) 0) 0) count) kinds (count + 1) q (i + 1) row
+      pub row_new : RowSweep a part column (set order count (get_or part p 0)) (set number (get_or part p 0) (Some count)) (count + 1) q (i + 1) state
       row_new = record {
-        in_row = omega arith;
         in_rows = omega (arith, r.in_rows);
-        is_row = rw (get_or-set_other order count q (get_or part (get_or a (cells_at + (row + get_or column i 0)) 0) 0) 0 (λ z. omega (arith, r.in_rows))) r.is_row;
-        swept = rw next at (rw is_lead at (swept_new d.sound d.parts r.swept r.in_rows h column_in (rw is_lead e)));
+        is_state = r.is_state ∙ sym (get_or-set_other order count q (get_or part p 0) 0 (λ z. omega (arith, r.in_rows)));
+        swept = rw next at (rw is_lead at (swept_new d.sound d.parts r.swept r.in_rows h column_in (rw is_lead n)));
       }
 
 -- ---- the numbers of the states
 
--- of no state
-pub numbers_none : (part number into : List ℕ) (count : ℕ) → length into ≡ state_limit → Numbers part number into 0 count
-numbers_none part number into count e = record { size = e; inside = λ t h. absurd (omega arith) }
-
-module _ {part number into : List ℕ} {t count : ℕ} (n : Numbers part number into t count) where
-  -- of one more, whose part has none
-  pub numbers_old : count ≤ get_or number (get_or part t 0) 0 → Numbers part number into (t + 1) count
-  numbers_old h = record {
-    size = n.size;
-    inside = below_more (λ (u : ℕ). get_or number (get_or part u 0) 0 < count → get_or into u 0 ≡ get_or number (get_or part u 0) 0) t n.inside (λ g. absurd (omega arith));
-  }
-
-  -- or has one
-  pub numbers_new : t < state_limit → Numbers part number (set into t (get_or number (get_or part t 0) 0)) (t + 1) count
-  numbers_new h = let v = get_or number (get_or part t 0) 0 in record {
-    size = length-set into t v ∙ n.size;
-    inside = below_more (λ (u : ℕ). get_or number (get_or part u 0) 0 < count → get_or (set into t v) u 0 ≡ get_or number (get_or part u 0) 0) t
-        (λ u l g. get_or-set_other into t u v 0 (λ z. omega arith) ∙ n.inside u l g) (λ g. get_or-set_same into t v 0 (omega (arith, n.size)));
-  }
+-- the first n of all states
+pub numbers_front : (part : List ℕ) {number : List (Option ℕ)} {into : List ℕ} (n : ℕ) → n ≤ length part → Numbers (take n part) number into (length (take n part)) → Numbers part number into n
+numbers_front part n l s = record { size = s.size; inside = λ t v h z. s.inside t v (omega (arith, length-take n part)) (rw (get_or-take n part t 0 h) z) }

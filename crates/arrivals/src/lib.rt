@@ -2,90 +2,68 @@
 // leads, and that one is read before it, so no other byte can bring a new state.
 #![tactic(auto)]
 
-ghost use Rattle.std.specs.Prelude.{◌≡◌, ◌+◌, ◌*◌, ◌≤◌, ◌<◌, length};
+ghost use Rattle.std.specs.Prelude.{◌+◌, ◌*◌, ◌≤◌, ◌<◌, length};
 ghost use Rattle.scope.specs.Limits.{state_limit};
 ghost use Rattle.scope.specs.Machines.Room.{Below};
 ghost use Rattle.arrivals.specs.Swept.{Sweepable, PlacesSwept, Numbers, Arrived};
 
+use room::Table;
 use scope::Machine;
+use smallest_plan::States;
 
-// Numbers the parts to which the state q leads that have no number yet; how many have one then.
+// Numbers the parts to which the state q leads that have no number yet.
 fn sweep(
-    from: &[u8],
+    room: &Table,
     part: &[u16; refinement::STATES],
-    column: &[u8; Machine::BYTES],
-    kinds: usize,
+    columns: &[u8],
     q: usize,
-    order: &mut [u8; Machine::STATES],
-    number: &mut [u16; Machine::STATES],
-    count: usize,
-) -> usize
-    requires sweepable { Sweepable from.now part.now column.now kinds }
-    requires q_lt_count { (q < count) × PlacesSwept from.now part.now column.now order.old number.old kinds count (q * kinds) }
-    ensures { (q < result) × PlacesSwept from.now part.now column.now order.new number.new kinds result ((q + 1) * kinds) }
+    states: &mut States,
+    number: &mut [Option<u8>; Machine::STATES],
+)
+    requires sweepable { Sweepable room.now part.now columns.now }
+    requires swept { (q < states.old.count) × PlacesSwept room.now part.now columns.now states.old.order number.old states.old.count (q * length columns.now) }
+    ensures { (q < states.new.count) × PlacesSwept room.now part.now columns.now states.new.order number.new states.new.count ((q + 1) * length columns.now) }
 {
-    let k = room::head(from).classes;
-    let row = order[q] as usize * k;
-    let mut count = count;
-    let mut i: usize = 0;
-    while i < kinds {
-        let t = part[from[Machine::CELLS_AT + (row + column[i] as usize)] as usize] as usize;
-        if number[t] as usize == Machine::STATES {
-            order[count] = t as u8;
-            number[t] = count as u16;
+    let state = states.order[q] as usize;
+    let row = room.row(state);
+    let mut count = states.count;
+    for &column in columns {
+        let t = part[row[column as usize] as usize] as usize;
+        if number[t].is_none() {
+            states.order[count] = t as u8;
+            number[t] = Some(count as u8);
             count += 1;
         }
-        i += 1;
     }
-    count
+    states.count = count;
 }
 
-// Writes the number of the part of each of the first n states that has one. Numbers are below `count`: the mark of a part that has none is never taken for one.
-fn numbers(
-    part: &[u16; refinement::STATES],
-    number: &[u16; Machine::STATES],
-    n: usize,
-    count: usize,
-    into: &mut [u8; Machine::STATES],
-)
-    requires n_le_state_limit { (n ≤ state_limit) × (count ≤ state_limit) × Below part.now 0 n n × Below number.now 0 n (state_limit + 1) }
-    requires into_len { length into.old ≡ state_limit }
-    ensures { Numbers part.now number.now into.new n count }
+// Writes the number of the part of each state, where it has one.
+fn numbers(part: &[u16], number: &[Option<u8>; Machine::STATES], into: &mut [u8; Machine::STATES])
+    requires { (length part.now ≤ state_limit) × Below part.now 0 (length part.now) state_limit }
+    ensures { Numbers part.now number.now into.new (length part.now) }
 {
-    let mut t: usize = 0;
-    while t < n {
-        let v = number[part[t] as usize] as usize;
-        if v < count {
-            into[t] = v as u8;
+    for (state, &t) in part.iter().enumerate() {
+        if let Some(v) = number[t as usize] {
+            into[state] = v;
         }
-        t += 1;
     }
 }
 
-// Numbers the parts on first arrival; how many numbers there are. In `order` is then the state of the room that each number stands for, and in `into` the number of each
-// of its states.
-pub fn arrivals(
-    from: &[u8],
-    part: &[u16; refinement::STATES],
-    column: &[u8; Machine::BYTES],
-    kinds: usize,
-    order: &mut [u8; Machine::STATES],
-    into: &mut [u8; Machine::STATES],
-) -> usize
-    requires sweepable { Sweepable from.now part.now column.now kinds }
-    requires order_len { (length order.old ≡ state_limit) × (length into.old ≡ state_limit) }
-    ensures { Arrived from.now part.now column.now order.new into.new kinds result }
+// Numbers the parts on first arrival.
+pub fn arrivals(room: &Table, part: &[u16; refinement::STATES], columns: &[u8], states: &mut States)
+    requires { Sweepable room.now part.now columns.now }
+    ensures { Arrived room.now part.now columns.now states.new }
 {
-    let mut number = [Machine::STATES as u16; Machine::STATES];
-    let p = part[0] as usize;
-    order[0] = p as u8;
-    number[p] = 0;
-    let mut count: usize = 1;
-    let mut q: usize = 0;
-    while q < count {
-        count = sweep(from, part, column, kinds, q, order, &mut number, count);
+    let mut number = [None; Machine::STATES];
+    let first = part[0] as usize;
+    states.order[0] = first as u8;
+    states.count = 1;
+    number[first] = Some(0);
+    let mut q = 0;
+    while q < states.count {
+        sweep(room, part, columns, q, states, &mut number);
         q += 1;
     }
-    numbers(part, &number, room::head(from).states, count, into);
-    count
+    numbers(&part[..room.head().states], &number, &mut states.into);
 }

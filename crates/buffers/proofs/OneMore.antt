@@ -17,13 +17,16 @@ use Prim.Native.Nat.{ℕ, ◌+◌, ◌-◌, ◌≤◌, ◌<◌}
 use mathlib.Core.Path.{◌≡◌, refl, sym, ap, ◌∙◌}
 use mathlib.Core.Bool.{Bool, true, false, false≢true, true≢false}
 use mathlib.Core.Logic.{inl, inr, ⊎_elim, ◌↔◌}
-use mathlib.Core.List.{List}
+use mathlib.Core.List.{List, ◌++◌}
 use native.Mathlib.Omega.{arith}
 use borrow.Author.Count.{below_more}
 use borrow.Author.Tests.{eqb-true, eqb-false}
 use lib.Bits.{bit_or, or_add_and, and_le_l, and_le_r}
 use lib.Dec.{eqb}
-use lib.ListN.{length, get_or, set, take, drop, length-set, length-drop}
+use lib.ListN.{length, get_or, set, take, drop, replicate, length-set, length-drop}
+use borrow.Rule.Slice.PartMut.{put_mid}
+use borrow.Author.Rules.{rules}
+use Rattle.std.proofs.lemmas.List.{places}
 use lib.Seq.{get_or-set_same, get_or-set_other, get_or-drop, take_all}
 use Rattle.scope.specs.Limits.{scratch_bytes, scratch_words}
 use Rattle.scope.specs.Operations.Buffers.{Written, TailKept, Cleared}
@@ -100,6 +103,22 @@ stored_written s = record { size = s.size; inside = λ i h. s.inside i h (omega 
 
 pub written_stored : {a b : List ℕ} {n : ℕ} {f : ℕ → ℕ} → Written n f a b → Stored a b 0 n f
 written_stored w = record { size = w.size; inside = λ i h k. w.inside i h; outside = λ i h. w.outside i (⊎_elim (λ x. omega arith) (λ x. x) h) }
+
+-- a part of k elements from a on that was written whole
+pub stored_part : (a k : ℕ) (m ys : List ℕ) → a + k ≤ length m → length ys ≡ k → Stored m (put_mid a k m ys) a (a + k) (λ i. get_or ys (i - a) 0)
+stored_part a k m ys h e = record {
+  size = search (rules, places);
+  inside = λ i l g. search (rules, places);
+  outside = λ i o. ⊎_elim (λ x. search (rules, places)) (λ x. search (rules, places)) o;
+}
+
+-- so the first n elements, in which all are v
+pub written_front : {k v : ℕ} {ys : List ℕ} (n : ℕ) (m : List ℕ) → n ≤ length m → k ≡ n → ys ≡ replicate k v → Written n (λ i. v) m (ys ++ drop n m)
+written_front n m h l e = rw (e, l) (record {
+  size = search (rules, places);
+  inside = λ i l. search (rules, places);
+  outside = λ i l. search (rules, places);
+})
 
 -- nothing is written
 pub written_start : (f : ℕ → ℕ) (m : List ℕ) → Written 0 f m m

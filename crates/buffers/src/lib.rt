@@ -1,4 +1,5 @@
 // What every layer needs of a lent buffer: fill, copy, compare, the greatest byte, whether all are 0, the classes of a room; each with a contract that says every element.
+// A part is a buffer and two places in it, as `Stored`, `AtMost` and `Greatest` speak of it.
 #![tactic(auto)]
 
 ghost use Rattle.std.specs.Prelude.{◌+◌, ◌-◌, ◌≤◌, length, get_or};
@@ -11,35 +12,15 @@ pub fn fill(m: &mut [u8], from: usize, to: usize, v: u8)
     requires { (from ≤ to) × (to ≤ length m.old) }
     ensures { Stored m.old m.new from to (λ i. v) }
 {
-    let mut i = from;
-    while i < to {
-        m[i] = v;
-        i += 1;
-    }
+    m[from..to].fill(v);
 }
 
-// The same of words.
-pub fn fill_words(m: &mut [u64], from: usize, to: usize, v: u64)
-    requires { (from ≤ to) × (to ≤ length m.old) }
-    ensures { Stored m.old m.new from to (λ i. v) }
-{
-    let mut i = from;
-    while i < to {
-        m[i] = v;
-        i += 1;
-    }
-}
-
-// Copies the first n bytes.
+// Copies the first n bytes, and says so as `Written`, which parts put together by the library do not.
 pub fn copy(from: &[u8], to: &mut [u8], n: usize)
     requires { (n ≤ length from.now) × (n ≤ length to.old) }
     ensures { Written n (λ i. get_or from.now i 0) to.old to.new }
 {
-    let mut i: usize = 0;
-    while i < n {
-        to[i] = from[i];
-        i += 1;
-    }
+    to[..n].copy_from_slice(&from[..n]);
 }
 
 // Writes the class of each byte into a machine room.
@@ -47,42 +28,34 @@ pub fn write_classes(room: &mut [u8], class: &[u8; scope::Machine::BYTES])
     requires { marks_at ≤ length room.old }
     ensures { Stored room.old room.new classes_at marks_at (λ i. get_or class.now (i - classes_at) 0) }
 {
-    let mut i = scope::Machine::CLASSES_AT;
-    while i < scope::Machine::MARKS_AT {
-        room[i] = class[i - scope::Machine::CLASSES_AT];
-        i += 1;
-    }
+    room[scope::Machine::CLASSES_AT..scope::Machine::MARKS_AT].copy_from_slice(class);
 }
 
-// Whether the first n bytes are the same.
+// Whether the first n bytes are the same. All are compared: an exit at the first that differs, as `==` of slices has, would keep them from being compared many at once.
 pub fn same(a: &[u8], b: &[u8], n: usize) -> bool
     requires { (n ≤ length a.now) × (n ≤ length b.now) }
     ensures { Decides result (BeginAlike a.now b.now n) }
 {
     let mut alike = true;
-    let mut i: usize = 0;
-    while i < n {
+    for i in 0..n {
         if a[i] != b[i] {
             alike = false;
         }
-        i += 1;
     }
     alike
 }
 
-// The greatest byte from `from` up to `to`, 0 if there is none.
+// The greatest byte from `from` up to `to`, 0 if there is none: where `from` lies beyond `to` too, which a part `m[from..to]` does not allow.
 pub fn greatest(m: &[u8], from: usize, to: usize) -> u8
     requires { to ≤ length m.now }
     ensures { Greatest m.now from to result }
 {
     let mut top: u8 = 0;
-    let mut i = from;
-    while i < to {
+    for i in from..to {
         let x = m[i];
         if x > top {
             top = x;
         }
-        i += 1;
     }
     top
 }
@@ -97,11 +70,9 @@ fn are_zero_halves(m: &[u8], from: usize, half: usize) -> bool
 {
     let mut first: u8 = 0;
     let mut second: u8 = 0;
-    let mut i = from;
-    while i < from + half {
-        first = first | m[i];
-        second = second | m[i + half];
-        i += 1;
+    for i in from..from + half {
+        first |= m[i];
+        second |= m[i + half];
     }
     first | second == 0
 }
@@ -120,27 +91,18 @@ pub fn are_zero(m: &[u8], from: usize, to: usize) -> bool
     are_zero_halves(m, at, half) && greatest(m, from, at) == 0 && greatest(m, rest, to) == 0
 }
 
-// Whether the scratch is long enough.
+// Whether the scratch is long enough. Its bytes and its words are lent apart, as the C interface has them, and each contract says what becomes of each.
 pub fn is_scratch(bytes: &[u8], words: &[u64]) -> bool
     ensures { Decides result (Scratch bytes.now words.now) }
 {
-    if bytes.len() < scope::Machine::SCRATCH_BYTES {
-        return false;
-    }
-    if words.len() < scope::Machine::SCRATCH_WORDS {
-        return false;
-    }
-    true
+    bytes.len() >= scope::Machine::SCRATCH_BYTES && words.len() >= scope::Machine::SCRATCH_WORDS
 }
 
 // Whether a machine room and the scratch are long enough.
 pub fn is_lent(room: &[u8], bytes: &[u8], words: &[u64]) -> bool
     ensures { Decides result (Lent room.now bytes.now words.now) }
 {
-    if room.len() < scope::Machine::ROOM {
-        return false;
-    }
-    is_scratch(bytes, words)
+    room.len() >= scope::Machine::ROOM && is_scratch(bytes, words)
 }
 
 // Makes the named scratch zero.
@@ -148,6 +110,6 @@ pub fn clear(bytes: &mut [u8], words: &mut [u64])
     requires { Scratch bytes.old words.old }
     ensures { Cleared bytes.old bytes.new words.old words.new }
 {
-    fill(bytes, 0, scope::Machine::SCRATCH_BYTES, 0);
-    fill_words(words, 0, scope::Machine::SCRATCH_WORDS, 0);
+    bytes[..scope::Machine::SCRATCH_BYTES].fill(0);
+    words[..scope::Machine::SCRATCH_WORDS].fill(0);
 }

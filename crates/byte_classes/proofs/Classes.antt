@@ -9,7 +9,7 @@
 --   group_none, group_below, group_next, group_many: the loop over the positions
 --   spread_more, group_spread: the classes spread over the bytes
 use Prim.Native.Nat.{ℕ, zero, suc, ◌+◌, ◌-◌, ◌*◌, ◌^◌, ◌≤◌, ◌<◌}
-use mathlib.Core.Path.{◌≡◌, refl, sym, ap₂, subst, ◌∙◌}
+use mathlib.Core.Path.{◌≡◌, refl, sym, ap, ap₂, ◌∙◌}
 use mathlib.Core.Bool.{true}
 use mathlib.Core.List.{List}
 use mathlib.Core.Logic.{inl, inr, ◌↔◌}
@@ -20,6 +20,8 @@ use lib.Bits.{bit_and}
 use lib.Count.{count_trailing_zeros}
 use lib.ListN.{length, get_or, set, length-set, replicate, length-replicate}
 use lib.Seq.{get_or-set_same, get_or-set_other}
+use Rattle.std.specs.Prelude.{Option, Some, None, unwrap_or}
+use Rattle.std.proofs.lemmas.Option.{none-some}
 use Rattle.scope.specs.Limits.{byte_values, class_limit}
 use Rattle.scope.specs.Machines.Canonical.{met}
 use Rattle.scope.specs.Count.{Over}
@@ -34,9 +36,7 @@ use Rattle.sets.specs.Layout.{bit_at}
 use Rattle.sets.proofs.HeldBits.{bit_small}
 use Rattle.byte_runs.specs.Runs.{last_byte, is_end, NoEnd, RunEnd, Like}
 use Rattle.byte_runs.proofs.Ends.{EndsLeft, left_start, left_none, left_in, left_end, left_next, before_last}
-use Rattle.byte_classes.specs.Group.{end_of, own_place, Key, Classes, Grouped, GroupAnswer, ClassesBelow}
-use Rattle.byte_classes.specs.declared.Counted.{Counted}
-use Rattle.byte_classes.specs.declared.Counted.TheVariants.{Few, Many}
+use Rattle.byte_classes.specs.Group.{end_of, own_place, Key, Classes, Grouped, TooMany, ClassesBelow}
 use Rattle.byte_classes.proofs.NumbersMet.{met_used, met_same, numbered_on, numbered_met, over_one}
 use Rattle.byte_classes.proofs.RunEnds.{end_inside}
 
@@ -59,48 +59,48 @@ class_used {class = class} c i h = met_used class byte_values i c.smallest (rw c
 abbrev key_of : List ℕ → ℕ → (ℕ → ℕ) → List ℕ → ℕ → ℕ
 key_of m p at old a = 2 * get_or old (at a) 0 + bit_at m p (at a)
 
--- lead has the key of each class; names has for each of these keys 1 more than its class, and 0 for the others
-pub record Table (names lead : List ℕ) (k : ℕ) : Type 0 where
+-- lead has the key of each class; names has for each of these keys its class, and none for the others
+pub record Table (names : List (Option ℕ)) (lead : List ℕ) (k : ℕ) : Type 0 where
   pub size : length names ≡ 2 * class_limit
   pub leads : length lead ≡ class_limit
   pub few : k ≤ class_limit
-  pub new : (i : ℕ) → get_or names i 0 ≡ 0 → (v : ℕ) → v < k → get_or lead v 0 ≡ i → ⊥
-  pub known : (i : ℕ) → (get_or names i 0 ≡ 0 → ⊥) → (get_or names i 0 ≤ k) × (get_or lead (get_or names i 0 - 1) 0 ≡ i)
+  pub new : (i : ℕ) → get_or names i None ≡ None → (v : ℕ) → v < k → get_or lead v 0 ≡ i → ⊥
+  pub known : (i v : ℕ) → get_or names i None ≡ Some v → (v < k) × (get_or lead v 0 ≡ i)
 
 -- a key takes the next class
-module _ {names lead : List ℕ} {k key : ℕ} (t : Table names lead k) (room : key < 2 * class_limit) (ne : k ≡ class_limit → ⊥) where
+module _ {names : List (Option ℕ)} {lead : List ℕ} {k key : ℕ} (t : Table names lead k) (room : key < 2 * class_limit) (ne : k ≡ class_limit → ⊥) where
   lead_own : get_or (set lead k key) k 0 ≡ key
   lead_own = get_or-set_same lead k key 0 (omega (arith, t.few, t.leads))
 
   lead_kept : (v : ℕ) → v < k → get_or (set lead k key) v 0 ≡ get_or lead v 0
   lead_kept v h = get_or-set_other lead k v key 0 (λ q. omega arith)
 
-  table_more : Table (set names key (k + 1)) (set lead k key) (k + 1)
+  table_more : Table (set names key (Some k)) (set lead k key) (k + 1)
   table_more = record {
-    size = length-set names key (k + 1) ∙ t.size;
+    size = length-set names key (Some k) ∙ t.size;
     leads = length-set lead k key ∙ t.leads;
     few = omega (arith, t.few);
     new = λ i q v h y. elim (ℕ_discrete i key) [
-      | yes d ↦ omega (arith, rw d at q, named)
+      | yes d ↦ none-some k (sym q ∙ ap (λ (j : ℕ). get_or (set names key (Some k)) j None) d ∙ named)
       | no d ↦ elim (split v k) [ inl l ↦ t.new i (sym (unnamed i d) ∙ q) v l (sym (lead_kept v l) ∙ y) | inr l ↦ (let e : v ≡ k = omega arith in d (sym (rw e at y) ∙ lead_own)) ]
     ];
-    known = λ i h. elim (ℕ_discrete i key) [
-      | yes d ↦ (let e : k + 1 - 1 ≡ k = omega arith in rw (d, named, e) (omega arith, lead_own))
-      | no d ↦
-          (let some : get_or names i 0 ≡ 0 → ⊥ = λ y. h (unnamed i d ∙ y) in
-          let (most, q) = t.known i some in
-          rw (unnamed i d) (omega arith, lead_kept (get_or names i 0 - 1) (omega arith) ∙ q))
+    known = λ i v h. elim (ℕ_discrete i key) [
+      | yes d ↦ (let e : v ≡ k = same_some (sym h ∙ ap (λ (j : ℕ). get_or (set names key (Some k)) j None) d ∙ named) in rw (d, e) (omega arith, lead_own))
+      | no d ↦ (let (most, q) = t.known i v (sym (unnamed i d) ∙ h) in (omega arith, lead_kept v most ∙ q))
     ];
   }
     where
-      named : get_or (set names key (k + 1)) key 0 ≡ k + 1
-      named = get_or-set_same names key (k + 1) 0 (omega (arith, t.size))
+      named : get_or (set names key (Some k)) key None ≡ Some k
+      named = get_or-set_same names key (Some k) None (omega (arith, t.size))
 
-      unnamed : (i : ℕ) → (i ≡ key → ⊥) → get_or (set names key (k + 1)) i 0 ≡ get_or names i 0
-      unnamed i d = get_or-set_other names key i (k + 1) 0 d
+      unnamed : (i : ℕ) → (i ≡ key → ⊥) → get_or (set names key (Some k)) i None ≡ get_or names i None
+      unnamed i d = get_or-set_other names key i (Some k) None d
+
+      same_some : {a b : ℕ} → Some a ≡ Some b → a ≡ b
+      same_some e = ap (λ (o : Option ℕ). unwrap_or o 0) e
 
 -- the runs before x are split, and each byte there has its class at the end of its run
-pub record RunsSplit (m : List ℕ) (p : ℕ) (ends old names map : List ℕ) (k x : ℕ) : Type 0 where
+pub record RunsSplit (m : List ℕ) (p : ℕ) (ends old : List ℕ) (names : List (Option ℕ)) (map : List ℕ) (k x : ℕ) : Type 0 where
   pub last : is_end ends last_byte ≡ true
   pub below : ClassesBelow (end_of ends) old
   pub size : length map ≡ byte_values
@@ -113,7 +113,7 @@ pub record RunsSplit (m : List ℕ) (p : ℕ) (ends old names map : List ℕ) (k
   pub numbered : Numbered Same (key_of m p (end_of ends) old) (λ a. get_or map (end_of ends a) 0) (λ v. get_or lead v 0) 0 k x
 
 -- e: the end of the run that begins at x
-module _ {m : List ℕ} {p : ℕ} {ends old names map : List ℕ} {k x e : ℕ} (s : RunsSplit m p ends old names map k x) (r : RunEnd ends x e) where
+module _ {m : List ℕ} {p : ℕ} {ends old : List ℕ} {names : List (Option ℕ)} {map : List ℕ} {k x e : ℕ} (s : RunsSplit m p ends old names map k x) (r : RunEnd ends x e) where
   in_run : (a : ℕ) → x ≤ a → a ≤ e → end_of ends a ≡ e
   in_run = end_inside ends s.last r
 
@@ -135,7 +135,7 @@ module _ {m : List ℕ} {p : ℕ} {ends old names map : List ℕ} {k x e : ℕ} 
   whole a h = elim (split a x) [ inl l ↦ omega (arith, s.whole a l, r.upto) | inr l ↦ omega (arith, in_run a l (omega arith)) ]
 
   -- the run is named
-  runs_named : {names' : List ℕ} {k' : ℕ} (v : ℕ) (lead : List ℕ) → Table names' lead k'
+  runs_named : {names' : List (Option ℕ)} {k' : ℕ} (v : ℕ) (lead : List ℕ) → Table names' lead k'
       → Numbered Same (key_of m p (end_of ends) old) (λ a. get_or (set map e v) (end_of ends a) 0) (λ w. get_or lead w 0) 0 k' (e + 1) → RunsSplit m p ends old names' (set map e v) k' (e + 1)
   runs_named v lead t n = record {
     last = s.last;
@@ -155,22 +155,20 @@ module _ {m : List ℕ} {p : ℕ} {ends old names map : List ℕ} {k x e : ℕ} 
     at a h l = rw (in_run a h l) (ap₂ (λ (z w : ℕ). 2 * z + w) (s.ahead e r.upto) ey)
 
     -- the key has a class
-    pub runs_old : (get_or names (2 * get_or map e 0 + y) 0 ≡ 0 → ⊥)
-        → RunsSplit m p ends old names (set map e (get_or names (2 * get_or map e 0 + y) 0 - 1)) k (e + 1)
-    runs_old ne =
-        let v = get_or names (2 * get_or map e 0 + y) 0 - 1 in
-        let (most, q) = s.table.known (2 * get_or map e 0 + y) ne in
+    pub runs_old : {v : ℕ} → get_or names (2 * get_or map e 0 + y) None ≡ Some v → RunsSplit m p ends old names (set map e v) k (e + 1)
+    runs_old {v} h =
+        let (most, q) = s.table.known (2 * get_or map e 0 + y) v h in
         runs_named v s.lead s.table
         (numbered_on (numbered_same s.numbered (key_of m p (end_of ends) old) (λ a. get_or (set map e v) (end_of ends a) 0) (λ w. get_or s.lead w 0) (λ a h. refl) (kept v) (λ w h. refl)) (e + 1)
         (omega (arith, r.upto)) (λ a h l. rw (here v a l (omega arith)) (omega arith, q ∙ at a l (omega arith))))
 
-    module _ (z : get_or names (2 * get_or map e 0 + y) 0 ≡ 0) where
+    module _ (z : get_or names (2 * get_or map e 0 + y) None ≡ None) where
       -- no class has the key
       fresh : (v : ℕ) → v < k → get_or s.lead v 0 ≡ key_of m p (end_of ends) old x → ⊥
       fresh v h q = s.table.new (2 * get_or map e 0 + y) z v h (q ∙ sym (at x (omega arith) r.upto))
 
       -- the key takes the next class
-      pub runs_new : (k ≡ class_limit → ⊥) → RunsSplit m p ends old (set names (2 * get_or map e 0 + y) (k + 1)) (set map e k) (k + 1) (e + 1)
+      pub runs_new : (k ≡ class_limit → ⊥) → RunsSplit m p ends old (set names (2 * get_or map e 0 + y) (Some k)) (set map e k) (k + 1) (e + 1)
       runs_new ne =
           let key = 2 * get_or map e 0 + y in
           let room : key < 2 * class_limit = omega (arith, runs_below, bit_small m p e) in
@@ -188,23 +186,29 @@ module _ {m : List ℕ} {p : ℕ} {ends old names map : List ℕ} {k x e : ℕ} 
           (λ v w h l lt u. s.numbered.apart v w l lt (sym (came v h).leads ∙ u ∙ (came w l).leads)) (λ v h u. fresh v h (sym (came v h).leads ∙ u)))
 
 -- before the word number w: the next run begins at x, and has no end so far
-pub record Splitting (m : List ℕ) (p : ℕ) (ends old names map : List ℕ) (k w : ℕ) : Type 0 where
+pub record Splitting (m : List ℕ) (p : ℕ) (ends old : List ℕ) (names : List (Option ℕ)) (map : List ℕ) (k w : ℕ) : Type 0 where
   pub x : ℕ
   pub upto : x ≤ 64 * w
   pub none : NoEnd ends x (64 * w)
   pub done : RunsSplit m p ends old names map k x
 
 -- in that word: `rest` has the ends that are left
-pub record SplittingWord (m : List ℕ) (p : ℕ) (ends old names map : List ℕ) (k w rest : ℕ) : Type 0 where
+pub record SplittingWord (m : List ℕ) (p : ℕ) (ends old : List ℕ) (names : List (Option ℕ)) (map : List ℕ) (k w rest : ℕ) : Type 0 where
   pub x : ℕ
   pub upto : x ≤ 64 * (w + 1)
   pub none : NoEnd ends x (64 * w)
   pub left : EndsLeft ends w rest x
   pub done : RunsSplit m p ends old names map k x
 
+-- a list of none has none
+nones : (n i : ℕ) → ◌≡◌ {A = Option ℕ} (get_or (replicate n None) i None) None
+nones zero i = refl
+nones (suc n) zero = refl
+nones (suc n) (suc i) = nones n i
+
 -- no byte yet
 pub splitting_none : (m : List ℕ) (p : ℕ) (ends old : List ℕ) → is_end ends last_byte ≡ true → length old ≡ byte_values → ClassesBelow (end_of ends) old
-    → Splitting m p ends old (replicate (2 * class_limit) 0) old 0 0
+    → Splitting m p ends old (replicate (2 * class_limit) None) old 0 0
 splitting_none m p ends old last size below = record {
   x = 0;
   upto = omega arith;
@@ -218,17 +222,17 @@ splitting_none m p ends old last size below = record {
     ahead = λ a h. refl;
     lead = replicate class_limit 0;
     table = record {
-      size = length-replicate {A = ℕ} (2 * class_limit) 0;
+      size = length-replicate {A = Option ℕ} (2 * class_limit) None;
       leads = length-replicate {A = ℕ} class_limit 0;
       few = omega arith;
       new = λ i e v h. absurd (omega arith);
-      known = λ i h. absurd (h (zeros (2 * class_limit) i));
+      known = λ i v h. absurd (none-some v (sym (nones (2 * class_limit) i) ∙ h));
     };
     numbered = numbered_none (omega arith);
   };
 }
 
-module _ {m : List ℕ} {p : ℕ} {ends old names map : List ℕ} {k w : ℕ} (s : Splitting m p ends old names map k w) where
+module _ {m : List ℕ} {p : ℕ} {ends old : List ℕ} {names : List (Option ℕ)} {map : List ℕ} {k w : ℕ} (s : Splitting m p ends old names map k w) where
   -- all ends of the word are left
   pub word_none : get_or ends w 0 < 2 ^ 64 → SplittingWord m p ends old names map k w (get_or ends w 0)
   word_none small = record { x = s.x; upto = omega (arith, s.upto); none = s.none; left = left_start ends w s.x s.upto small; done = s.done }
@@ -247,7 +251,7 @@ module _ {m : List ℕ} {p : ℕ} {ends old names map : List ℕ} {k w : ℕ} (s
         classes = record { same = numbered_one n (λ a c. sym) (λ a c d. ◌∙◌); smallest = numbered_arrival n; count = numbered_met n };
       }
 
-module _ {m : List ℕ} {p : ℕ} {ends old names map : List ℕ} {k w rest : ℕ} (s : SplittingWord m p ends old names map k w rest) where
+module _ {m : List ℕ} {p : ℕ} {ends old : List ℕ} {names : List (Option ℕ)} {map : List ℕ} {k w rest : ℕ} (s : SplittingWord m p ends old names map k w rest) where
   -- no end is left
   pub word_all : rest ≡ 0 → Splitting m p ends old names map k (w + 1)
   word_all z = record { x = s.x; upto = s.upto; none = left_none s.left s.none z; done = s.done }
@@ -258,7 +262,7 @@ module _ {m : List ℕ} {p : ℕ} {ends old names map : List ℕ} {k w rest : �
     word_run = left_end s.left s.none some
 
     -- it is split
-    pub word_more : {names' map' : List ℕ} {k' : ℕ} → RunsSplit m p ends old names' map' k' (64 * w + count_trailing_zeros 64 rest + 1)
+    pub word_more : {names' : List (Option ℕ)} {map' : List ℕ} {k' : ℕ} → RunsSplit m p ends old names' map' k' (64 * w + count_trailing_zeros 64 rest + 1)
         → SplittingWord m p ends old names' map' k' w (bit_and rest (rest - 1))
     word_more d = record {
       x = 64 * w + count_trailing_zeros 64 rest + 1;
@@ -303,30 +307,25 @@ module _ (m : List ℕ) (n : ℕ) (at : ℕ → ℕ) (like : (b : ℕ) → b < b
         λ l. ap₂ (λ (x y : ℕ). 2 * x + y) ((g.classes.same a b ha hb).1 (λ q w. l q (omega arith))) (sym (like a ha p h) ∙ l p (omega arith) ∙ like b hb p h),
       )
 
-  module _ (map : List ℕ) {r : Counted} (a : GroupAnswer (Key m p at old) at map r) where
-    -- a position more
-    pub group_next : (c : ℕ) → r ≡ Few c → Grouped (Like m (p + 1)) at map c
-    group_next c y =
-        let d = subst (GroupAnswer (Key m p at old) at map) y a in
-        record {
-          size = d.size;
-          few = d.few;
-          classes = record {
-            same = λ a b h l. (let (there, back) = like_key a b h l in let (u, v) = d.classes.same a b h l in ((λ x. there (u x)), λ x. v (back x)));
-            smallest = d.classes.smallest;
-            count = d.classes.count;
-          };
-        }
+  -- a position more
+  pub group_next : {map : List ℕ} {c : ℕ} → Grouped (Key m p at old) at map c → Grouped (Like m (p + 1)) at map c
+  group_next d = record {
+    size = d.size;
+    few = d.few;
+    classes = record {
+      same = λ a b h l. (let (there, back) = like_key a b h l in let (u, v) = d.classes.same a b h l in ((λ x. there (u x)), λ x. v (back x)));
+      smallest = d.classes.smallest;
+      count = d.classes.count;
+    };
+  }
 
-    -- 65 bytes that a position tells apart stay so
-    pub group_many : r ≡ Many → Over class_limit (λ (b : ℕ). b < byte_values) (Like m n)
-    group_many y =
-        let o = subst (GroupAnswer (Key m p at old) at map) y a in
-        record {
-          thing = o.thing;
-          have = o.have;
-          differ = λ i j l z x. o.differ i j l z ((like_key (o.thing i) (o.thing j) (o.have i (omega arith)) (o.have j z)).1 (λ q w. x q (omega arith)));
-        }
+  -- 65 bytes that a position tells apart stay so
+  pub group_many : TooMany (Key m p at old) → TooMany (Like m n)
+  group_many o = record {
+    thing = o.thing;
+    have = o.have;
+    differ = λ i j l z x. o.differ i j l z ((like_key (o.thing i) (o.thing j) (o.have i (omega arith)) (o.have j z)).1 (λ q w. x q (omega arith)));
+  }
 
 -- ---- spread
 

@@ -4,10 +4,3 @@
 
 pub mod group;
 pub mod masks;
-
-// How many there are, or that there are more than the limit.
-#[derive(Clone, Copy)]
-pub enum Counted {
-    Few(usize),
-    Many,
-}

@@ -1,7 +1,7 @@
 -- Runs. A byte is an end where a position tells it from the next; with no end in between, no position tells two bytes apart.
---   BytesJoining: the loop over eight bytes, from the last down: x has the bits of those from i on
---   joining_none, joining_fits, joining_more, joining_all: its turns
---   noted_none, noted_more: the loop over the words of a byte set: the ends of 64 byte values more
+--   eight_bytes: eight bytes, read as one number
+--   WordsNoted: the loop over the words of a byte set
+--   words_none, words_more: its turns: the ends of 64 byte values more
 --   runs_none, runs_more: the loop over the positions
 --   EndsLeft: of the ends of a word, those from b on
 --   left_start, left_from: the whole word, and from b on
@@ -12,17 +12,22 @@ use mathlib.Core.Path.{◌≡◌, refl, sym, ap, ◌∙◌}
 use mathlib.Core.Bool.{true, false, true≢false}
 use mathlib.Core.List.{List}
 use mathlib.Core.Logic.{◌⊎◌, inl, inr}
-use native.Mathlib.Nat.{add-zero, div-one, zero-div, pow-suc, mod-eq_of_lt, div-mul-le_self}
+use native.Mathlib.Nat.{add-zero, div-one, zero-div, pow-suc, mod-eq_of_lt, div-mul-le_self, div-add-mod'}
 use native.Mathlib.Numerals.{add-one}
 use native.Mathlib.Omega.{arith}
-use native.Mathlib.Decide.{le_ind}
+use native.Mathlib.Decide.{le_ind, ℕ_discrete}
 use borrow.Author.Count.{below_more}
+use borrow.Author.Rules.{rules}
 use borrow.Author.Tests.{eqb-false}
 use lib.Bits.{bit_or, bit_xor, bit_and, or_step, xor_step, and_step, or_shr, xor_shr, and_self, and_le_l, block_half, block_odd}
 use lib.Count.{count_trailing_zeros}
-use lib.ListN.{length, get_or, set}
-use lib.Pow.{pow-add, pow_mono, shr-shr, shl-shr, high}
+use mir.Syntax.{w64}
+use lib.ListN.{length, get_or, set, take, drop, length-set}
+use lib.Pow.{pow-add, shr-shr, shl-shr, high}
 use lib.Seq.{get_or-set_same, get_or-set_other}
+use Rattle.std.specs.Int.{byte_at, bytes_low_first, from_le_bytes}
+use Rattle.std.proofs.lemmas.List.{places}
+use Rattle.std.proofs.lemmas.Nat.{le_bytes_8, or_lt, xor_lt}
 use Rattle.scope.specs.Limits.{byte_values}
 use Rattle.scope.specs.Positions.Bits.{has}
 use Rattle.scope.proofs.Positions.Bits.{digit, has_half, has_shr, has_zero, has_small, trailing_none, trailing_one}
@@ -42,43 +47,43 @@ lower_bit zero a x j h = absurd (omega arith)
 lower_bit (suc k) a x zero h = simp div-one (block_odd a k x)
 lower_bit (suc k) a x (suc j) h = rw (← half (a * 2 ^ suc k + x) j, ← half x j, block_half a k x) (lower_bit k a (x / 2) j (omega arith))
 
-pub record BytesJoining (m : List ℕ) (at x i : ℕ) : Type 0 where
-  pub few : i ≤ 8
-  pub small : x < 2 ^ (64 - 8 * i)
-  pub bits : (j : ℕ) → j < 64 - 8 * i → x / 2 ^ j % 2 ≡ get_or m (at + i + j / 8) 0 / 2 ^ (j % 8) % 2
+-- what a byte is worth
+worth : (k : ℕ) → 256 ^ k ≡ 2 ^ (8 * k)
+worth zero = refl
+worth (suc k) = let e : 8 * suc k ≡ 8 * k + 8 = omega arith in omega (arith, pow-suc 256 k, worth k, pow-add 2 (8 * k) 8, ap (λ (y : ℕ). 2 ^ y) e)
 
--- no byte yet
-pub joining_none : (m : List ℕ) (at : ℕ) → BytesJoining m at 0 8
-joining_none m at = record { few = omega arith; small = omega arith; bits = λ j h. absurd (omega arith) }
+-- a bit of a byte of a number
+byte_bit : (n k i : ℕ) → i < 8 → n / 2 ^ (8 * k + i) % 2 ≡ byte_at k n / 2 ^ i % 2
+byte_bit n k i h =
+    let q : n / 2 ^ (8 * k) % 256 / 2 ^ i % 2 ≡ n / 2 ^ (8 * k) / 2 ^ i % 2
+    = sym (lower_bit 8 (n / 2 ^ (8 * k) / 256) (n / 2 ^ (8 * k) % 256) i h) ∙ ap (λ (y : ℕ). y / 2 ^ i % 2) (div-add-mod' (n / 2 ^ (8 * k)) 256) in
+    ap (λ (y : ℕ). y % 2) (sym (shr-shr n (8 * k) i)) ∙ sym q ∙ ap (λ (y : ℕ). y / 2 ^ i % 2) (sym (byte k))
+  where
+    byte : (k : ℕ) → byte_at k n ≡ n / 2 ^ (8 * k) % 256
+    byte zero = simp div-one refl
+    byte (suc k) = ap (λ (y : ℕ). n / y % 256) (worth (suc k))
 
--- n: the byte that comes next
-module _ {m : List ℕ} {at x i : ℕ} (n : ℕ) (q : i ≡ n + 1) (s : BytesJoining m at x i) where
-  -- the bound of one byte more
-  wide : 2 ^ (64 - 8 * n) ≡ 2 ^ (64 - 8 * i) * 256
-  wide = let e : 64 - 8 * n ≡ 64 - 8 * i + 8 = omega (arith, s.few) in ap (λ (y : ℕ). 2 ^ y) e ∙ pow-add 2 (64 - 8 * i) 8
+-- the bytes of a number
+byte_of : (i c n k j : ℕ) → k < c → i + k ≡ j → get_or (bytes_low_first i c n) k 0 ≡ byte_at j n
+byte_of i zero n k j h e = absurd (omega arith)
+byte_of i (suc c) n zero j h e = let d : i ≡ j = omega arith in ap (λ (y : ℕ). byte_at y n) d
+byte_of i (suc c) n (suc k) j h e = byte_of (suc i) c n k j (omega arith) (omega arith)
 
-  -- a byte more fits the word
-  pub joining_fits : x * 256 + 255 < 2 ^ 64
-  joining_fits = omega (arith, s.small, wide, pow_mono {i = 64 - 8 * n} {j = 64} (omega arith))
-
-  -- one byte more
-  pub joining_more : get_or m (at + n) 0 < 256 → BytesJoining m at (x * 256 + get_or m (at + n) 0) n
-  joining_more h = record {
-    few = omega (arith, s.few);
-    small = omega (arith, s.small, wide);
-    bits = λ j l. elim (split j 8) [
-      | inl k ↦ (let e : at + n + j / 8 ≡ at + n = omega arith in let d : j % 8 ≡ j = omega arith in rw (e, d) (lower_bit 8 x (get_or m (at + n) 0) j k))
-      | inr k ↦ (let e : at + n + j / 8 ≡ at + i + (j - 8) / 8 = omega arith in
-          let d : j % 8 ≡ (j - 8) % 8 = omega arith in
-          let u : j ≡ 8 + (j - 8) = omega arith in
-          ap (λ (y : ℕ). (x * 256 + get_or m (at + n) 0) / 2 ^ y % 2) u ∙ ap (λ (y : ℕ). y % 2) (sym (shr-shr (x * 256 + get_or m (at + n) 0) 8 (j - 8)))
-          ∙ ap (λ (y : ℕ). y / 2 ^ (j - 8) % 2) (high x 8 h) ∙ rw (e, d) (s.bits (j - 8) (omega (arith, s.few))))
-    ];
-  }
-
--- all of them
-pub joining_all : {m : List ℕ} {at x i : ℕ} → i ≤ 0 → BytesJoining m at x i → EightBytes m at x
-joining_all {at = at} {i = i} h s = record { bits = λ j l. (let e : at + j / 8 ≡ at + i + j / 8 = omega arith in rw e (s.bits j (omega arith))) }
+-- eight bytes, read as one number
+pub eight_bytes : {m e : List ℕ} {at k n : ℕ} → k ≡ 8 → e ≡ take k (drop at m) → at + 8 ≤ length m → ((i : ℕ) → get_or m i 0 < 256) → n ≡ from_le_bytes w64 e → EightBytes m at n
+eight_bytes {m} {e} {at} {n = n} q t h small z = record {
+  bits = λ j l.
+      let b : get_or e (j / 8) 0 ≡ get_or m (at + j / 8) 0 = rw (t, q) (search (rules, places)) in
+      let d : 8 * (j / 8) + j % 8 ≡ j = omega arith in
+      let x : get_or e (j / 8) 0 ≡ byte_at (j / 8) n = ap (λ (y : List ℕ). get_or y (j / 8) 0) (sym (le_bytes_8 e n (rw (t, q) (search (rules, places))) fits z)) ∙ byte_of 0 8 n (j / 8) (j / 8) (omega arith) (omega arith) in
+      rw d at (byte_bit n (j / 8) (j % 8) (omega arith)) ∙ ap (λ (y : ℕ). y / 2 ^ (j % 8) % 2) (sym x ∙ b);
+}
+  where
+    fits : (i : ℕ) → get_or e i 0 < 256
+    fits i = elim (split i 8) [
+      | inl k ↦ (let b : get_or e i 0 ≡ get_or m (at + i) 0 = rw (t, q) (search (rules, places)) in omega (arith, small (at + i)))
+      | inr k ↦ (let b : get_or e i 0 ≡ 0 = rw (t, q) (search (rules, places)) in omega arith)
+    ]
 
 -- ---- one position
 
@@ -121,26 +126,43 @@ module _ (m : List ℕ) (p w x : ℕ) (v : EightBytes m (p * byte_set + 8 * w) x
         rw (u, high (get_or m (p * byte_set + 8 * w + 8) 0 % 2) 63 {lo = x / 2} (omega arith), e, d) (omega arith))
   ]
 
--- no byte value yet
-pub noted_none : (m : List ℕ) (p : ℕ) (old new : List ℕ) → EndsNoted m p old new 0
-noted_none m p old new = record { none = λ b h. absurd (omega arith) }
+-- the byte values of the words below w are noted, and the other words are as they were
+pub record WordsNoted (m : List ℕ) (p : ℕ) (old new : List ℕ) (w : ℕ) : Type 0 where
+  pub size : 64 * length new ≡ byte_values
+  pub kept : (i : ℕ) → w ≤ i → get_or new i 0 ≡ get_or old i 0
+  pub noted : EndsNoted m p old new (64 * w)
 
--- 64 byte values more
-pub noted_more : {m : List ℕ} {p x : ℕ} {old new : List ℕ} (w : ℕ) → EndsNoted m p old new (64 * w) → w < length new → EightBytes m (p * byte_set + 8 * w) x → x < 2 ^ 64
-    → EndsNoted m p old (set new w (bit_or (get_or old w 0) (bit_xor x (get_or m (p * byte_set + 8 * w + 8) 0 % 2 * 2 ^ 63 + x / 2)))) (64 * (w + 1))
-noted_more {m} {p} {x} {old} {new} w n h v small = record {
-  none = λ b l z. elim (split b (64 * w)) [
-    | inl k ↦ n.none b k (rw (get_or-set_other new w (b / 64) (bit_or (get_or old w 0) (bit_xor x next)) 0 (λ e. omega arith)) at z)
-    | inr k ↦
-        (let d : b / 64 ≡ w = omega arith in
-        let e : 64 * w + b % 64 ≡ b = omega arith in
-        let (s, t) = edges_none (get_or old w 0) x next (b % 64) (rw (d, get_or-set_same new w (bit_or (get_or old w 0) (bit_xor x next)) 0 h) at z) in
-        (rw d s, rw e at (sym (own_bit m p w x v (b % 64) (omega arith)) ∙ t ∙ next_bit m p w x v small (b % 64) (omega arith))))
-  ];
+-- no word yet
+pub words_none : (m : List ℕ) (p : ℕ) (old : List ℕ) → 64 * length old ≡ byte_values → ((w : ℕ) → get_or old w 0 < 2 ^ 64) → WordsNoted m p old old 0
+words_none m p old h f = record { size = h; kept = λ i l. refl; noted = record { fits = f; none = λ b h. absurd (omega arith) } }
+
+-- one word more
+pub words_more : {m : List ℕ} {p x : ℕ} {old new : List ℕ} (w : ℕ) → WordsNoted m p old new w → w < length new → EightBytes m (p * byte_set + 8 * w) x → x < 2 ^ 64
+    → WordsNoted m p old (set new w (bit_or (get_or new w 0) (bit_xor x (get_or m (p * byte_set + 8 * w + 8) 0 % 2 * 2 ^ 63 + x / 2)))) (w + 1)
+words_more {m} {p} {x} {old} {new} w n h v small = record {
+  size = omega (arith, length-set new w mark, n.size);
+  kept = λ i l. get_or-set_other new w i mark 0 (λ e. omega arith) ∙ n.kept i (omega arith);
+  noted = record {
+    fits = λ i. elim (ℕ_discrete i w) [
+      | yes e ↦ rw (e, get_or-set_same new w mark 0 h) (or_lt 64 _ _ (n.noted.fits w) (xor_lt 64 _ _ small (omega arith)))
+      | no e ↦ rw (get_or-set_other new w i mark 0 e) (n.noted.fits i)
+    ];
+    none = λ b l z. elim (split b (64 * w)) [
+      | inl k ↦ n.noted.none b k (rw (get_or-set_other new w (b / 64) mark 0 (λ e. omega arith)) at z)
+      | inr k ↦
+          (let d : b / 64 ≡ w = omega arith in
+          let e : 64 * w + b % 64 ≡ b = omega arith in
+          let (s, t) = edges_none (get_or new w 0) x next (b % 64) (rw (d, get_or-set_same new w mark 0 h) at z) in
+          (rw (d, ← n.kept w (omega arith)) s, rw e at (sym (own_bit m p w x v (b % 64) (omega arith)) ∙ t ∙ next_bit m p w x v small (b % 64) (omega arith))))
+    ];
+  };
 }
   where
     next : ℕ
     next = get_or m (p * byte_set + 8 * w + 8) 0 % 2 * 2 ^ 63 + x / 2
+
+    mark : ℕ
+    mark = bit_or (get_or new w 0) (bit_xor x next)
 
 -- ---- all positions
 

@@ -5,7 +5,7 @@
 --   RunEnd ends b e: e is the end of the run that b is in
 --   EightBytes m at x: x has the bits of the eight bytes from `at` on
 --   Like m n a b: each of the first n positions holds both a and b or neither
---   EndsNoted m p old new e: a byte below e is no end in `new` only if it is none in `old`, and the position p + 1 holds both it and the next or neither
+--   EndsNoted m p old new e: a byte below e is no end in `new` only if it is none in `old`, and the position p + 1 holds both it and the next or neither; `new` has words
 --   RunsOf R ends: two bytes with no end from the one up to the other are alike by R, and 255 is an end
 use Rattle.std.specs.Prelude.{ℕ, ◌+◌, ◌-◌, ◌/◌, ◌%◌, ◌^◌, ◌<◌, ◌≤◌, ◌≡◌, Bool, true, false, List, get_or}
 use Rattle.scope.specs.Limits.{byte_values}
@@ -34,6 +34,7 @@ abbrev pub Like : List ℕ → ℕ → ℕ → ℕ → Type 0
 Like m n a b = (p : ℕ) → p < n → bit_at m p a ≡ bit_at m p b
 
 pub record EndsNoted (m : List ℕ) (p : ℕ) (old new : List ℕ) (e : ℕ) : Type 0 where
+  pub fits : (w : ℕ) → get_or new w 0 < 2 ^ 64
   pub none : (b : ℕ) → b < e → is_end new b ≡ false → (is_end old b ≡ false) × (bit_at m p b ≡ bit_at m p (b + 1))
 
 pub record RunsOf (R : ℕ → ℕ → Type 0) (ends : List ℕ) : Type 0 where

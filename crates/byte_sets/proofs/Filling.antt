@@ -5,6 +5,7 @@
 --   flat: so it is for what is read before the leaves l
 --   PutIn t k l m m': of the tree t, k positions are put in, and the others are the leaves l; put_more, put_none: one more is put in; none is left
 --   ToFill s i t k m m': so it is for leaves of which the first begins at i; BytesLeft: so it is for every tree of the text
+--   BytesToCome s i k m m': so it is for the next leaf at i or after it
 --   filling_all, filling_some, filling_room, filling_more, filling_none: all leaves are left; there is one more; there is room for it; it was put in; none is left
 use Prim.Native.Nat.{ℕ, ◌+◌, ◌^◌, ◌<◌, ◌≤◌}
 use mathlib.Core.Path.{◌≡◌, refl, sym, ap, ◌∙◌}
@@ -112,6 +113,9 @@ pub record ToFill (s : List ℕ) (i : ℕ) (t : Tree) (k : ℕ) (m m' : List ℕ
 pub record BytesLeft (s : List ℕ) (i k : ℕ) (m m' : List ℕ) : Type 0 where
   pub says : (t : Tree) → Pattern s t → ToFill s i t k m m'
 
+abbrev pub BytesToCome : List ℕ → ℕ → ℕ → List ℕ → List ℕ → Type 0
+BytesToCome s i k m m' = (r : ℕ) → NextLeaf s i r → BytesLeft s r k m m'
+
 put_more : {t : Tree} {k : ℕ} {x : Leaf} {l : List Leaf} {m m' m'' : List ℕ} → PutIn t k (x ∷ l) m m' → SetGrown k (set_of x) m' m'' → PutIn t (k + 1) l m m''
 unfolding held_by
 put_more {k = k} {x = x} {l = l} {m' = m'} p g = record {
@@ -133,19 +137,19 @@ module _ {s : List ℕ} where
   -- it was put in
   leaf_put : {i k r z : ℕ} {t : Tree} {l : List Leaf} {m m' m'' : List ℕ} → LeafAt s i l → i < length s → PutIn t k l m m' → Took Single set_of s i k m' m'' r → NextLeaf s r z → ToFill s z t (k + 1) m m''
   leaf_put none_left n p f a = absurd (omega arith)
-  leaf_put (here {j = j} {x = x} {l = l} v w) n p f a = let (e, g) = f.says j x v in record { rest = l; todo = a.says l (rw e w); put = put_more p g }
+  leaf_put (here {j = j} {x = x} {l = l} v w) n p f a = let (e, g) = f.says j x v in record { rest = l; todo = a l (rw e w); put = put_more p g }
 
   -- at the end of the text there is none
   leaf_over : {i k : ℕ} {t : Tree} {l : List Leaf} {m m' : List ℕ} → LeafAt s i l → length s ≤ i → PutIn t k l m m' → BytesCame (expr t) 0 m m'
   leaf_over none_left n p = put_none p
   leaf_over (here x r) n p = absurd (omega (arith, single_on x, single_in x))
 
-  pub filling_all : {r : ℕ} (m : List ℕ) → NextLeaf s 0 r → BytesLeft s r 0 m m
+  pub filling_all : (m : List ℕ) → BytesToCome s 0 0 m m
   unfolding held_by
-  filling_all m n = record {
+  filling_all m r n = record {
     says = λ t p.
         let x = flat p over in
-        record { rest = x.all; todo = n.says x.all x.stand; put = record { count = omega (arith, x.count); kept = all_kept m byte_sets; bits = λ q b h. ap (λ (v : Bool). held m q b || v) (x.holds 0 q b ∙ or-false _) } };
+        record { rest = x.all; todo = n x.all x.stand; put = record { count = omega (arith, x.count); kept = all_kept m byte_sets; bits = λ q b h. ap (λ (v : Bool). held m q b || v) (x.holds 0 q b ∙ or-false _) } };
   }
 
   module _ {i k : ℕ} {m m' : List ℕ} (f : BytesLeft s i k m m') where
@@ -155,8 +159,8 @@ module _ {s : List ℕ} where
     pub filling_room : Fillable s → i < length s → k < position_limit
     filling_room p n = let u = f.says p.tree p.reads in let (j, x, y, z) = leaf_some u.todo n in omega (arith, u.put.count, p.brief)
 
-    pub filling_more : {m'' : List ℕ} {r z : ℕ} → i < length s → Took Single set_of s i k m' m'' r → NextLeaf s r z → BytesLeft s z (k + 1) m m''
-    filling_more n g a = record { says = λ t x. let u = f.says t x in leaf_put u.todo n u.put g a }
+    pub filling_more : {m'' : List ℕ} {r : ℕ} → i < length s → Took Single set_of s i k m' m'' r → BytesToCome s r (k + 1) m m''
+    filling_more n g z a = record { says = λ t x. let u = f.says t x in leaf_put u.todo n u.put g a }
 
     pub filling_none : length s ≤ i → Filled s m m'
     filling_none n = record { says = λ t x. let u = f.says t x in leaf_over u.todo n u.put }

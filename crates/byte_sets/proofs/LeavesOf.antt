@@ -1,5 +1,5 @@
 -- The leaves of a text from left to right. The byte at a place, and the one after a backslash, tell what stands there.
---   frame_told: what the test of a byte of the frame says
+--   frame_told, blank_byte, other_byte: what the tests say of a byte of the frame, and of one after a backslash
 --   Passed s i r: whatever leaves there are from i on, they are there from r on
 --   passed_none, passed_frame, passed_blank: nothing is passed yet; a byte of the frame; a blank atom
 --   leaf_here, leaf_none: a leaf begins here; the text is over
@@ -8,7 +8,7 @@ use Prim.Native.Char.{code}
 use mathlib.Core.Path.{◌≡◌, refl, sym, ap, ◌∙◌}
 use mathlib.Core.Bool.{Bool, true, false, false≢true}
 use mathlib.Core.List.{List}
-use mathlib.Core.Logic.{inl, inr}
+use mathlib.Core.Logic.{◌⊎◌, inl, inr}
 use native.Mathlib.Decide.{ℕ_discrete}
 use native.Mathlib.Omega.{arith}
 use borrow.Author.Tests.{ne_eqb}
@@ -18,9 +18,10 @@ use Rattle.scope.specs.Limits.{byte_values}
 use Rattle.scope.specs.Text.Grammar.{literal, escapable, is_mark, Single, a_dot, a_literal, an_escape, a_class}
 use Rattle.scope.specs.Text.Tree.{Leaf}
 use Rattle.scope.proofs.Counting.Tests.{or, equals}
-use Rattle.scope.proofs.Text.Grammar.{other, escape_head, single_back}
+use Rattle.scope.proofs.Text.Grammar.{other, escape_head, single_on, single_back}
 use Rattle.scope.proofs.Text.Marks.{mark_other}
 use Rattle.leaves.specs.ReadAt.{Backslash}
+use Rattle.leaves.proofs.ByteByByte.{single_in}
 use Rattle.byte_sets.specs.LeavesOf.{is_frame, is_blank, LeavesFrom, over, frame, blank, leaf, LeafAt, none_left, here, NextLeaf}
 
 pub record Passed (s : List ℕ) (i r : ℕ) : Type 0 where
@@ -32,6 +33,16 @@ pub record Passed (s : List ℕ) (i r : ℕ) : Type 0 where
 -- what the test says of the byte that it is made on
 pub frame_told : {b c : ℕ} {r v : Bool} → b ≡ c → r ≡ is_frame b → r ≡ v → is_frame c ≡ v
 frame_told p q h = ap is_frame (sym p) ∙ sym q ∙ h
+
+-- a byte that makes a blank atom after a backslash, and any other
+pub blank_byte : {b : ℕ} → (b ≡ code "0") ⊎ (b ≡ code "e") → is_blank b ≡ true
+unfolding is_blank
+blank_byte (inl e) = rw e refl
+blank_byte (inr e) = rw e refl
+
+pub other_byte : {b : ℕ} → ((b ≡ code "0") ⊎ (b ≡ code "e") → ⊥) → is_blank b ≡ false
+unfolding is_blank
+other_byte f = rw (ne_eqb _ (code "e") (λ e. f (inr e)), ne_eqb _ (code "0") (λ e. f (inl e))) refl
 
 -- a literal is no byte of the frame
 literal_frame : (b : ℕ) → literal b ≡ true → is_frame b ≡ false
@@ -82,6 +93,13 @@ module _ {s : List ℕ} where
   leaf_first f n (blank k d r) = absurd (false≢true (sym (n k) ∙ d))
   leaf_first f n (leaf x r) = here x r
 
+  leaf_over : {i : ℕ} {l : List Leaf} → length s ≤ i → LeavesFrom s i l → LeafAt s (length s) l
+  unfolding is_frame is_mark
+  leaf_over n over = none_left
+  leaf_over n (frame k r) = absurd (false≢true (sym (ap is_frame (get_or-eq_default s byte_values n)) ∙ k))
+  leaf_over n (blank k d r) = absurd (omega (arith, get_or-eq_default s byte_values n))
+  leaf_over n (leaf x r) = absurd (omega (arith, single_on x, single_in x))
+
   pub passed_none : (i : ℕ) → Passed s i i
   passed_none i = record { on = omega arith; says = λ l r. r }
 
@@ -93,8 +111,7 @@ module _ {s : List ℕ} where
     passed_blank n f q e = let (h, d) = behind q e in record { on = omega arith; says = λ l r. blank_next n f h d (p.says l r) }
 
     pub leaf_here : {b : ℕ} → is_frame (byte s i) ≡ false → Backslash s i b → is_blank b ≡ false → NextLeaf s at i
-    leaf_here f q e = record { on = p.on; says = λ l r. leaf_first f (λ h. ap is_blank (sym (q.yes h)) ∙ e) (p.says l r) }
+    leaf_here f q e = λ l r. leaf_first f (λ h. ap is_blank (sym (q.yes h)) ∙ e) (p.says l r)
 
-    pub leaf_none : length s ≤ i → NextLeaf s at i
-    unfolding is_frame is_mark
-    leaf_none n = let e = get_or-eq_default s byte_values n in record { on = p.on; says = λ l r. leaf_first (rw e refl) (λ h. absurd (omega arith)) (p.says l r) }
+    pub leaf_none : length s ≤ i → NextLeaf s at (length s)
+    leaf_none n = λ l r. leaf_over n (p.says l r)

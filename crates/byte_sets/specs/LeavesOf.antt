@@ -4,7 +4,8 @@
 --   LeavesFrom s i l: from i to its end the text has the leaves l, and else only frame and blank atoms
 --   LeafAt s i l: so it is, and the first of them begins at i
 --   NextLeaf s i r: whatever leaves there are from i on, the first begins at r
-use Rattle.std.specs.Prelude.{ℕ, ◌+◌, ◌≤◌, ◌≡◌, true, ◌||◌, List, [], ◌∷◌, eqb, length}
+--   LeafFound s i o: so it is for the place o, which lies inside of the text and not before i; or there are none
+use Rattle.std.specs.Prelude.{ℕ, ◌+◌, ◌<◌, ◌≤◌, ◌≡◌, true, ◌||◌, List, [], ◌∷◌, eqb, length, Option, MatchOption}
 use Prim.Native.Char.{code}
 use Rattle.scope.specs.Bytes.{ByteSet, byte}
 use Rattle.scope.specs.Text.Grammar.{is_mark, Single}
@@ -27,6 +28,8 @@ pub data LeafAt (s : List ℕ) : ℕ → List Leaf → Type 0 where
   none_left : LeafAt s (length s) []
   here : {i j : ℕ} {x : Leaf} {l : List Leaf} → Single s i j x → LeavesFrom s j l → LeafAt s i (x ∷ l)
 
-pub record NextLeaf (s : List ℕ) (i r : ℕ) : Type 0 where
-  pub on : i ≤ r
-  pub says : (l : List Leaf) → LeavesFrom s i l → LeafAt s r l
+abbrev pub NextLeaf : List ℕ → ℕ → ℕ → Type 0
+NextLeaf s i r = (l : List Leaf) → LeavesFrom s i l → LeafAt s r l
+
+abbrev pub LeafFound : List ℕ → ℕ → Option ℕ → Type 0
+LeafFound s i o = MatchOption o (NextLeaf s i (length s)) (λ r. (i ≤ r) × (r < length s) × NextLeaf s i r)

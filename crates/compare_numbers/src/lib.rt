@@ -3,6 +3,8 @@
 
 ghost use Rattle.scope.specs.Operations.Compare.{Compares};
 
+use answers::Numbered;
+
 // Compares, returns the number of the answer, and writes its length and rounds.
 pub fn compare(
     left: &[u8],
@@ -16,7 +18,7 @@ pub fn compare(
     ensures { Compares left.now right.now word.old word.new bytes.old bytes.new words.old words.new result length.new rounds.new }
 {
     let compared = compare::compare(left, right, word, bytes, words);
-    *length = compared.length();
-    *rounds = compared.rounds();
+    *length = compared.value();
+    *rounds = compared.map_or(0, |compared| compared.rounds());
     compared.number()
 }

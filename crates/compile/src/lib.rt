@@ -7,10 +7,9 @@ ghost use Rattle.scope.specs.Operations.Compile.{Compiles};
 ghost use Rattle.pattern.specs.PatternSets.{Faultless};
 ghost use Rattle.compile.specs.CompilePasses.{ReadsText, AnswersCompile};
 
-use answers::Compiled;
-use determinise::Built;
-use judge::Judged;
+use answers::CompileRefusal;
 use pattern::Shape;
+use room::Table;
 use scope::Machine;
 use sets::layout;
 
@@ -19,53 +18,55 @@ fn read(text: &[u8], bytes: &mut [u8], words: &mut [u64]) -> Shape
     requires { Faultless text.now × Scratch bytes.old words.old }
     ensures { ReadsText text.now bytes.old bytes.new words.old words.new result }
 {
-    buffers::fill(bytes, 0, layout::IMAGE_AT, 0);
-    buffers::fill_words(words, 0, layout::READ_WORDS, 0);
+    bytes[..layout::IMAGE_AT].fill(0);
+    words[..layout::READ_WORDS].fill(0);
     pattern::read(text, bytes, words)
 }
 
-// Builds the machine of a text that was judged faultless, and makes it smallest into the room.
-fn build(text: &[u8], room: &mut [u8], bytes: &mut [u8], words: &mut [u64]) -> Compiled
+// Builds the machine of a text that was judged faultless, and makes it smallest into the room. Judging answers a fault or nothing: that there is none is required.
+fn build(
+    text: &[u8],
+    room: &mut [u8],
+    bytes: &mut [u8],
+    words: &mut [u64],
+) -> Result<(), CompileRefusal>
     requires { Faultless text.now × Lent room.old bytes.old words.old }
     ensures { AnswersCompile text.now room.old room.new bytes.old bytes.new words.old words.new (compiled_number result) (compiled_place result) }
 {
     let shape = read(text, bytes, words);
-    let last = shape.last;
-    let built = determinise::build(bytes, words, shape.size, last, shape.null);
-    match built {
-        Built::Done => {
-            smallest::smallest(&bytes[layout::IMAGE_AT..], room, words);
-            Compiled::Done
-        }
-        Built::Classes => Compiled::Classes,
-        Built::States => Compiled::States,
-    }
+    determinise::build(bytes, words, shape.size, shape.last, shape.null)?;
+    smallest::smallest(&Table::new(&bytes[layout::IMAGE_AT..]), room, words);
+    Ok(())
 }
 
 // Judges the text, and builds its machine if it is faultless.
-fn answer(text: &[u8], room: &mut [u8], bytes: &mut [u8], words: &mut [u64]) -> Compiled
+fn answer(
+    text: &[u8],
+    room: &mut [u8],
+    bytes: &mut [u8],
+    words: &mut [u64],
+) -> Result<(), CompileRefusal>
     requires { Lent room.old bytes.old words.old }
     ensures { AnswersCompile text.now room.old room.new bytes.old bytes.new words.old words.new (compiled_number result) (compiled_place result) }
 {
     if text.len() > Machine::PATTERN {
-        return Compiled::Long;
+        return Err(CompileRefusal::Long);
     }
-    let judged = judge::judge(text);
-    match judged {
-        Judged::Faultless => build(text, room, bytes, words),
-        Judged::Syntax(i) => Compiled::Syntax(i),
-        Judged::Range(i) => Compiled::Range(i),
-        Judged::Depth(i) => Compiled::Depth(i),
-        Judged::Positions(i) => Compiled::Positions(i),
-    }
+    judge::judge(text)?;
+    build(text, room, bytes, words)
 }
 
 // Compiling: writes the canonical machine of a pattern into a room, or refuses the pattern with its place.
-pub fn compile(text: &[u8], room: &mut [u8], bytes: &mut [u8], words: &mut [u64]) -> Compiled
+pub fn compile(
+    text: &[u8],
+    room: &mut [u8],
+    bytes: &mut [u8],
+    words: &mut [u64],
+) -> Result<(), CompileRefusal>
     ensures { Compiles text.now room.old room.new bytes.old bytes.new words.old words.new (compiled_number result) (compiled_place result) }
 {
     if !buffers::is_lent(room, bytes, words) {
-        return Compiled::Room;
+        return Err(CompileRefusal::Room);
     }
     let answer = answer(text, room, bytes, words);
     buffers::clear(bytes, words);

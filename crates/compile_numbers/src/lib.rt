@@ -3,6 +3,8 @@
 
 ghost use Rattle.scope.specs.Operations.Compile.{Compiles};
 
+use answers::Numbered;
+
 // Compiles, returns the number of the answer, and writes its place.
 pub fn compile(
     pattern: &[u8],
@@ -14,6 +16,6 @@ pub fn compile(
     ensures { Compiles pattern.now room.old room.new bytes.old bytes.new words.old words.new result place.new }
 {
     let compiled = compile::compile(pattern, room, bytes, words);
-    *place = compiled.place();
+    *place = compiled.value();
     compiled.number()
 }

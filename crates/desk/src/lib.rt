@@ -10,39 +10,33 @@ ghost use Rattle.desk_rules.specs.DeskAnswers.{opened_number, pressed_number};
 ghost use Rattle.desk_rules.specs.Open.{Opens};
 ghost use Rattle.desk_rules.specs.Press.{Presses};
 
-pub use desk_rules::{Opened, Pressed};
+pub use desk_rules::{OpenRefusal, PressRefusal};
 use entry_form::{FIELDS, FORM_BYTES, valid};
 
 // Opens a form of so many fields, in which nothing is entered.
-pub fn open_form(count: usize, rooms: &[u8], form: &mut [u8]) -> Opened
+pub fn open_form(count: usize, rooms: &[u8], form: &mut [u8]) -> Result<(), OpenRefusal>
     ensures { Opens count rooms.now form.old form.new (opened_number result) }
 {
-    if count < 1 {
-        return Opened::Fields;
-    }
-    if count > FIELDS {
-        return Opened::Fields;
+    if !(1..=FIELDS).contains(&count) {
+        return Err(OpenRefusal::Fields);
     }
     if !valid::is_lent(count, rooms, form) {
-        return Opened::Room;
+        return Err(OpenRefusal::Room);
     }
     if !valid::are_sound(rooms, 0, count) {
-        return Opened::Form;
+        return Err(OpenRefusal::Form);
     }
     form[0] = count as u8;
     buffers::fill(form, 1, FORM_BYTES, 0);
-    Opened::Done
+    Ok(())
 }
 
 // Takes a key, or refuses it.
-pub fn press(rooms: &[u8], form: &mut [u8], key: u8) -> Pressed
+pub fn press(rooms: &[u8], form: &mut [u8], key: u8) -> Result<(), PressRefusal>
     ensures { Presses rooms.now form.old form.new key (pressed_number result) }
 {
-    if form.len() < FORM_BYTES {
-        return Pressed::Room;
-    }
-    if !valid::is_lent(form[0] as usize, rooms, form) {
-        return Pressed::Room;
+    if form.len() < FORM_BYTES || !valid::is_lent(form[0] as usize, rooms, form) {
+        return Err(PressRefusal::Room);
     }
     pressing::press_lent(rooms, form, key)
 }

@@ -1,10 +1,12 @@
 -- The desk's answers as numbers, beside those of the library. 02: "Refusals: on opening, 21 FIELDS ..; on a key, .. 13 CLOSED ..; 12 LENGTH ..; 10 DEAD BYTE ..; 11 UNFINISHED".
 --   FIELDS, DEAD_BYTE, UNFINISHED_KEY, LENGTH, CLOSED: the refusals that the desk adds; DONE, ROOM and FORM are the library's
---   opened_number, pressed_number: of `Opened` and of `Pressed`
-use Rattle.std.specs.Prelude.{ℕ}
+--   opened_number, pressed_number: of what opening answers, and of what a key does
+--   open_refusal_number, press_refusal_number: of their refusals
+use Rattle.std.specs.Prelude.{ℕ, Result}
 use Rattle.scope.specs.Answers.{DONE, ROOM, FORM}
-use Rattle.desk_rules.specs.declared.Opened.{Opened}
-use Rattle.desk_rules.specs.declared.Pressed.{Pressed}
+use Rattle.answers.specs.Numbers.{result_number}
+use Rattle.desk_rules.specs.declared.OpenRefusal.{OpenRefusal}
+use Rattle.desk_rules.specs.declared.PressRefusal.{PressRefusal}
 
 abbrev pub DEAD_BYTE : ℕ
 DEAD_BYTE = 10
@@ -21,17 +23,21 @@ CLOSED = 13
 abbrev pub FIELDS : ℕ
 FIELDS = 21
 
-abbrev pub opened_number : Opened → ℕ
-opened_number Opened.Done = DONE
-opened_number Opened.Fields = FIELDS
-opened_number Opened.Room = ROOM
-opened_number Opened.Form = FORM
+abbrev pub open_refusal_number : OpenRefusal → ℕ
+open_refusal_number OpenRefusal.Fields = FIELDS
+open_refusal_number OpenRefusal.Room = ROOM
+open_refusal_number OpenRefusal.Form = FORM
 
-abbrev pub pressed_number : Pressed → ℕ
-pressed_number Pressed.Done = DONE
-pressed_number Pressed.Room = ROOM
-pressed_number Pressed.Form = FORM
-pressed_number Pressed.DeadByte = DEAD_BYTE
-pressed_number Pressed.Unfinished = UNFINISHED_KEY
-pressed_number Pressed.Length = LENGTH
-pressed_number Pressed.Closed = CLOSED
+abbrev pub opened_number : Result (Unit {0}) OpenRefusal → ℕ
+opened_number = result_number (λ _. DONE) open_refusal_number
+
+abbrev pub press_refusal_number : PressRefusal → ℕ
+press_refusal_number PressRefusal.Room = ROOM
+press_refusal_number PressRefusal.Form = FORM
+press_refusal_number PressRefusal.DeadByte = DEAD_BYTE
+press_refusal_number PressRefusal.Unfinished = UNFINISHED_KEY
+press_refusal_number PressRefusal.Length = LENGTH
+press_refusal_number PressRefusal.Closed = CLOSED
+
+abbrev pub pressed_number : Result (Unit {0}) PressRefusal → ℕ
+pressed_number = result_number (λ _. DONE) press_refusal_number

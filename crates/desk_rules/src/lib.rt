@@ -1,37 +1,40 @@
 // The rules of the entry desk: what is entered, what a key does to it and what it answers, the form that shows an entry, and the contracts of opening a form and of
-// a key. They stand in `specs`, over those of `entry_form`; here are the answers. That a form passes the test exactly if keys can give it is a theorem in `proofs`.
+// a key. They stand in `specs`, over those of `entry_form`; here are the refusals. That a form passes the test exactly if keys can give it is a theorem in `proofs`.
 #![tactic(auto)]
 
-ghost use Rattle.std.specs.Prelude.{◌≡◌};
-ghost use Rattle.desk_rules.specs.DeskAnswers.{opened_number, pressed_number};
+ghost use Rattle.desk_rules.specs.DeskAnswers.{open_refusal_number, press_refusal_number};
 
-// What opening answers.
-#[derive(Clone, Copy)]
-pub enum Opened {
-    Done,
+use answers::Numbered;
+
+// Why a form is not opened.
+#[derive(Clone, Copy, PartialEq, Eq)]
+pub enum OpenRefusal {
     Fields,
     Room,
     Form,
 }
 
-impl Opened {
-    // The number of the answer.
-    pub fn number(self) -> u8
-        ensures { result ≡ opened_number self }
-    {
+impl Numbered for OpenRefusal {
+    ghost number_of = { open_refusal_number };
+
+    ghost value_of = { λ _. 0 };
+
+    fn number(&self) -> u8 {
         match self {
-            Opened::Done => 0,
-            Opened::Room => 1,
-            Opened::Form => 9,
-            Opened::Fields => 21,
+            OpenRefusal::Room => 1,
+            OpenRefusal::Form => 9,
+            OpenRefusal::Fields => 21,
         }
+    }
+
+    fn value(&self) -> usize {
+        0
     }
 }
 
-// What a key answers.
-#[derive(Clone, Copy)]
-pub enum Pressed {
-    Done,
+// Why a key is refused.
+#[derive(Clone, Copy, PartialEq, Eq)]
+pub enum PressRefusal {
     Room,
     Form,
     DeadByte,
@@ -40,19 +43,23 @@ pub enum Pressed {
     Closed,
 }
 
-impl Pressed {
-    // The number of the answer.
-    pub fn number(self) -> u8
-        ensures { result ≡ pressed_number self }
-    {
+impl Numbered for PressRefusal {
+    ghost number_of = { press_refusal_number };
+
+    ghost value_of = { λ _. 0 };
+
+    fn number(&self) -> u8 {
         match self {
-            Pressed::Done => 0,
-            Pressed::Room => 1,
-            Pressed::Form => 9,
-            Pressed::DeadByte => 10,
-            Pressed::Unfinished => 11,
-            Pressed::Length => 12,
-            Pressed::Closed => 13,
+            PressRefusal::Room => 1,
+            PressRefusal::Form => 9,
+            PressRefusal::DeadByte => 10,
+            PressRefusal::Unfinished => 11,
+            PressRefusal::Length => 12,
+            PressRefusal::Closed => 13,
         }
+    }
+
+    fn value(&self) -> usize {
+        0
     }
 }

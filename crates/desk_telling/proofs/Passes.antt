@@ -1,5 +1,6 @@
 -- What a key tells. A text dies at one place, so the array that is told is one; it is the one that matching tells of the field with the key. The field's own text is not
 -- dead, so it marks what this text goes on with.
+--   untold: with another answer than DEAD BYTE nothing is told
 --   passes_one: two arrays that one answer tells are equal
 --   determined: two results of one key are equal, with every byte of the form and of the array
 --   told_alike: desk and matcher agree
@@ -34,6 +35,10 @@ use Rattle.desk_telling.proofs.Own.{own_dead, own_stands}
 -- what is told of a dead text
 expected_one : {room text f g : List ℕ} {i j : ℕ} → Matches room text DEAD i → Expected (machine room) text i f → Matches room text DEAD j → Expected (machine room) text j g → f ≡ g
 expected_one {room} {text} {i = i} {j} m x n y = let e = dead_one (machine room) text i j (died m).1 (died n).1 in marks_one x (rw (← e) at y)
+
+-- with another answer than DEAD BYTE nothing is told
+pub untold : {rooms form e : List ℕ} {key n : ℕ} → (n ≡ DEAD_BYTE → ⊥) → Passes rooms form key e e n
+untold h = kept h refl
 
 module _ {rooms form e f g : List ℕ} {key : ℕ} where
   -- two arrays that one answer tells

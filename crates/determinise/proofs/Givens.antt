@@ -6,7 +6,7 @@
 --   part_length, put_all, put_tail: a part of the bytes, lent and written
 --   built, built_classes: the answer
 use Prim.Native.Nat.{ℕ, ◌+◌, ◌-◌, ◌^◌, ◌≤◌, ◌<◌}
-use mathlib.Core.Path.{◌≡◌, sym, ap, subst, ◌∙◌}
+use mathlib.Core.Path.{◌≡◌, sym, ap, ◌∙◌}
 use mathlib.Core.Bool.{Bool, true}
 use mathlib.Core.List.{List, ◌++◌, append-nil}
 use mathlib.Core.Logic.{◌↔◌}
@@ -15,6 +15,7 @@ use borrow.Rule.Slice.PartMut.{put_mid, post_of, same_len_mid}
 use lib.Bits.{bit_or}
 use lib.ListN.{length, get_or, take, drop, length-drop}
 use lib.Seq.{length-take-le, drop_at, drop-length, get_or-drop}
+use Rattle.std.specs.Prelude.{Result, Ok, Err}
 use Rattle.scope.specs.Limits.{byte_values, class_limit, position_limit, ways_at}
 use Rattle.scope.specs.Text.Re.{Re}
 use Rattle.scope.specs.Positions.Bits.{has, given, holders, final}
@@ -31,17 +32,14 @@ use Rattle.buffers.proofs.OneMore.{part_all}
 use Rattle.sets.specs.Layout.{held, image_at}
 use Rattle.sets.proofs.HeldBits.{bits_same}
 use Rattle.byte_runs.specs.Runs.{Like}
-use Rattle.byte_classes.specs.Group.{own_place, Grouped, GroupAnswer}
+use Rattle.byte_classes.specs.Group.{own_place, Grouped, TooMany}
 use Rattle.byte_classes.specs.Masks.{mask_of, Masked}
-use Rattle.byte_classes.specs.declared.Counted.{Counted}
-use Rattle.byte_classes.specs.declared.Counted.TheVariants.{Few, Many}
 use Rattle.byte_classes.proofs.NumbersMet.{within_all}
 use Rattle.byte_classes.proofs.Classes.{class_below, class_used}
 use Rattle.byte_classes.proofs.Masking.{mask_like}
 use Rattle.determinise.specs.Image.{ClassMap, DescribedBy, ImageCase, ImageAnswer}
 use Rattle.determinise.specs.Build.{Given, BuildOutcome, Builds}
-use Rattle.determinise.specs.declared.Built.{Built}
-use Rattle.determinise.specs.declared.Built.TheVariants.{Done, Classes, States}
+use Rattle.answers.specs.declared.Excess.{Excess}
 
 module _ (e : Re) (bytes words : List ℕ) (count last : ℕ) (null : Bool) (g : Given e bytes words count last null) where
   -- the mask of a byte has the positions that hold it
@@ -129,30 +127,26 @@ module _ (a n : ℕ) (s ys : List ℕ) (h : a ≤ length s) (t : TailKept n (tak
 
 -- ---- the answer
 
-module _ {bytes words : List ℕ} (count last : ℕ) (null : Bool) (map : List ℕ) {c : Counted} (few : count ≤ position_limit) (long : Scratch bytes words)
-    (a : GroupAnswer (Like bytes count) own_place map c) where
+module _ {bytes words : List ℕ} (count last : ℕ) (null : Bool) (few : count ≤ position_limit) (long : Scratch bytes words) where
   -- too many classes
-  pub built_classes : c ≡ Many → Builds bytes words count last null bytes words Classes
-  built_classes y = record {
-    outcome = λ e g. many_classes e bytes words count last null g (subst (GroupAnswer (Like bytes count) own_place map) y a);
+  pub built_classes : TooMany (Like bytes count) → Builds bytes words count last null bytes words (Err Excess.Classes)
+  built_classes a = record {
+    outcome = λ e g. many_classes e bytes words count last null g a;
     bytes_kept = all_kept _ _;
     words_kept = all_kept _ _;
   }
 
   -- the image, as a part of the bytes
-  module _ {k : ℕ} {masks : List ℕ} {finals : ℕ} {ys words' : List ℕ} {r : Built} (y : c ≡ Few k) (m : Masked bytes count map masks byte_values)
-      (f : finals ≡ bit_or last (given null 1))
+  module _ {map : List ℕ} {k : ℕ} (groups : Grouped (Like bytes count) own_place map k) {masks : List ℕ} {finals : ℕ} {ys words' : List ℕ} {r : Result (Unit {0}) Excess}
+      (m : Masked bytes count map masks byte_values) (f : finals ≡ bit_or last (given null 1))
       (x : ImageAnswer (take (length bytes - image_at) (drop image_at bytes)) words masks map finals ys words' r) where
-    groups : Grouped (Like bytes count) own_place map k
-    groups = subst (GroupAnswer (Like bytes count) own_place map) y a
-
     within : image_at ≤ length bytes
     within = omega (arith, long.bytes_long)
 
-    case : (r : Built) (e : Re) → FewClasses e → DescribedBy e words masks map finals → ImageCase words masks map finals ys r → BuildOutcome e ys r
-    case Done e l d z = let (s, w, n) = z e d in record { sound = s; words = w; few_classes = l; few_sets = n }
-    case Classes e l d z = absurd z
-    case States e l d z = (l, z e d)
+    case : (r : Result (Unit {0}) Excess) (e : Re) → FewClasses e → DescribedBy e words masks map finals → ImageCase words masks map finals ys r → BuildOutcome e ys r
+    case (Ok u) e l d z = let (s, w, n) = z e d in record { sound = s; words = w; few_classes = l; few_sets = n }
+    case (Err Excess.Classes) e l d z = absurd z
+    case (Err Excess.States) e l d z = (l, z e d)
 
     pub built : Builds bytes words count last null (put_mid image_at (length bytes - image_at) bytes ys) words' r
     built = record {

@@ -1,4 +1,5 @@
 -- The image as a room: sound, and its states stand for the reached sets, so that it recognises the words; and every reached set is one of its states.
+--   refused_as: what is refused where nothing is there
 --   covers_walk: a string leads to the state of the set that it leads to
 --   image_made: what an image with all rows and marks is; image_many: where too many sets are reached
 use Prim.Native.Nat.{ℕ, ◌+◌, ◌-◌, ◌*◌, ◌≤◌, ◌<◌}
@@ -11,6 +12,8 @@ use native.Mathlib.Omega.{arith}
 use lib.Bits.{bit_and}
 use lib.Dec.{eqb}
 use lib.ListN.{get_or}
+use Rattle.std.specs.Option.{ok_or}
+use Rattle.std.specs.Prelude.{Option, Some, None, Ok, Err}
 use Rattle.scope.specs.Limits.{byte_values, state_limit, classes_at, marks_at, cells_at, ways_at, set_words}
 use Rattle.scope.specs.Bytes.{Bytes}
 use Rattle.scope.specs.Text.Re.{Re}
@@ -24,15 +27,17 @@ use Rattle.scope.proofs.Operations.Buffers.{tail_then, tail_within}
 use Rattle.scope.proofs.Machines.Room.{flat_in}
 use Rattle.scope.proofs.Machines.Run.{run_below, sound_closed}
 use Rattle.sets.specs.Value.{set_at, Put}
-use Rattle.byte_classes.specs.declared.Counted.{Counted}
-use Rattle.byte_classes.specs.declared.Counted.TheVariants.{Few, Many}
 use Rattle.sets.specs.Layout.{sets_at}
 use Rattle.seats.specs.SeatLayout.{reached_set}
 use Rattle.reach.specs.Reach.{follows, cell_at, ReachedRows, RowFits, SetsOf, RowsCase, RowsAnswer}
 use Rattle.determinise.specs.Image.{mark_by, MapWritten, Stated, ClassMap, DescribedBy, ImageAnswer}
-use Rattle.determinise.specs.declared.Built.TheVariants.{Done, States}
+use Rattle.answers.specs.declared.Excess.{Excess}
 use Rattle.reach.proofs.Cells.{rows_leads}
 use Rattle.seats.proofs.Kept.{kept_sets, put_kept, kept_tail}
+
+-- what is refused where nothing is there
+pub refused_as : {T E : Type 0} {o : Option T} {e x : E} → Err e ≡ ok_or o x → o ≡ None → e ≡ x
+refused_as v z = let q = rw z at v in cc
 
 -- a string leads to the state of the set that it leads to
 pub covers_walk : (e : Re) (M : Machine) (sets : ℕ → ℕ) → Closed M → Covers e M sets → (w : List ℕ) (q : ℕ) → q < M.states → Bytes w
@@ -62,7 +67,7 @@ mark_small true = omega arith
 mark_small false = omega arith
 
 -- o₁: the classes, w₁: the words with {0}, o₂, w₂: with the rows
-module _ (finals : ℕ) {o w m map : List ℕ} {k s : ℕ} {o₁ w₁ o₂ w₂ : List ℕ} {r : Counted} (t : RowFits o w m k 0 1) (mp : ClassMap map k)
+module _ (finals : ℕ) {o w m map : List ℕ} {k s : ℕ} {o₁ w₁ o₂ w₂ : List ℕ} {r : Option ℕ} (t : RowFits o w m k 0 1) (mp : ClassMap map k)
     (h : MapWritten o o₁ map) (p : Put w w₁ sets_at s) (a : RowsAnswer o₁ w₁ m k o₂ w₂ r) where
   sets_of : (e : Re) → DescribedBy e w m map finals → SetsOf e w₁ m k
   sets_of e d = record {
@@ -75,7 +80,7 @@ module _ (finals : ℕ) {o w m map : List ℕ} {k s : ℕ} {o₁ w₁ o₂ w₂ 
   words_tail = tail_then (tail_within (omega arith) (kept_tail (put_kept p))) (kept_tail a.words)
 
   -- too many sets
-  pub image_many : r ≡ Many → ImageAnswer o w m map finals o₂ w₂ States
+  pub image_many : r ≡ None → ImageAnswer o w m map finals o₂ w₂ (Err Excess.States)
   image_many y = record {
     image = record { size = a.image.size ∙ h.size; outside = λ i l. a.image.outside i (inr l) ∙ h.tail i l };
     words = words_tail;
@@ -83,8 +88,8 @@ module _ (finals : ℕ) {o w m map : List ℕ} {k s : ℕ} {o₁ w₁ o₂ w₂ 
   }
 
   -- o₃: with the head and the marks of the n sets
-  module _ {o₃ : List ℕ} {n : ℕ} (y : r ≡ Few n) (v : Stated o₂ o₃ (reached_set w₂) n k finals) where
-    filled : RowsCase o₁ w₁ m k o₂ w₂ (Few n)
+  module _ {o₃ : List ℕ} {n : ℕ} (y : r ≡ Some n) (v : Stated o₂ o₃ (reached_set w₂) n k finals) where
+    filled : RowsCase o₁ w₁ m k o₂ w₂ (Some n)
     filled = subst (RowsCase o₁ w₁ m k o₂ w₂) y a.rows
 
     -- outside of the head, the marks and the cells the image is as it began
@@ -140,7 +145,7 @@ module _ (finals : ℕ) {o w m map : List ℕ} {k s : ℕ} {o₁ w₁ o₂ w₂ 
       }
 
     -- the image is made
-    pub image_made : ImageAnswer o w m map finals o₃ w₂ Done
+    pub image_made : ImageAnswer o w m map finals o₃ w₂ (Ok tt)
     image_made = record {
       image = tail;
       words = words_tail;

@@ -3,7 +3,7 @@
 --   MadeRoom e m: the room m is sound and has the words of e, which has few classes and sets
 --   BuildOutcome e m r: what each answer says of e
 --   Builds bytes words count last null bytes' words' r: the answer r, for every expression whose sets were given, and what the scratch keeps
-use Rattle.std.specs.Prelude.{ℕ, ◌+◌, ◌*◌, ◌<◌, ◌≤◌, ◌≡◌, Bool, List, drop}
+use Rattle.std.specs.Prelude.{ℕ, ◌+◌, ◌*◌, ◌<◌, ◌≤◌, ◌≡◌, Bool, Result, Ok, Err, List, drop}
 use Rattle.scope.specs.Limits.{byte_values, state_limit, ways_at, set_words}
 use Rattle.scope.specs.Text.Re.{Re, size, Words}
 use Rattle.scope.specs.Positions.Bits as bits
@@ -13,8 +13,7 @@ use Rattle.scope.specs.Positions.Reached.{ManyClasses, FewClasses, ManySets, Few
 use Rattle.scope.specs.Machines.Room.{machine, SoundTable}
 use Rattle.sets.specs.Value.{set_at}
 use Rattle.sets.specs.Layout.{held, image_at, sets_at}
-use Rattle.determinise.specs.declared.Built.{Built}
-use Rattle.determinise.specs.declared.Built.TheVariants.{Done, Classes, States}
+use Rattle.answers.specs.declared.Excess.{Excess}
 
 pub record Given (e : Re) (bytes words : List ℕ) (count last : ℕ) (null : Bool) : Type 0 where
   pub positions : size e ≡ count
@@ -31,12 +30,12 @@ pub record MadeRoom (e : Re) (m : List ℕ) : Type 0 where
   pub few_classes : FewClasses e
   pub few_sets : FewSets e
 
-abbrev pub BuildOutcome : Re → List ℕ → Built → Type 0
-BuildOutcome e m Done = MadeRoom e m
-BuildOutcome e m Classes = ManyClasses e
-BuildOutcome e m States = FewClasses e × ManySets e
+abbrev pub BuildOutcome : Re → List ℕ → Result (Unit {0}) Excess → Type 0
+BuildOutcome e m (Ok _) = MadeRoom e m
+BuildOutcome e m (Err Excess.Classes) = ManyClasses e
+BuildOutcome e m (Err Excess.States) = FewClasses e × ManySets e
 
-pub record Builds (bytes words : List ℕ) (count last : ℕ) (null : Bool) (bytes' words' : List ℕ) (r : Built) : Type 0 where
+pub record Builds (bytes words : List ℕ) (count last : ℕ) (null : Bool) (bytes' words' : List ℕ) (r : Result (Unit {0}) Excess) : Type 0 where
   pub outcome : (e : Re) → Given e bytes words count last null → BuildOutcome e (drop image_at bytes') r
   pub bytes_kept : TailKept (image_at + ways_at) bytes bytes'
   pub words_kept : TailKept ((sets_at + state_limit) * set_words) words words'

@@ -5,7 +5,7 @@
 --   ClassMap map k: classes of the 256 byte values, 1 to 64, each with a byte
 --   DescribedBy e w m map finals: the buffers hold the sets of the expression e
 --   ImageAnswer o w m map finals o' w' r: what determinising answers and keeps; for every expression that the buffers describe, what it makes
-use Rattle.std.specs.Prelude.{ℕ, ◌+◌, ◌*◌, ◌<◌, ◌≤◌, ◌≡◌, cond, List, ◌⊎◌, eqb, length, get_or}
+use Rattle.std.specs.Prelude.{ℕ, ◌+◌, ◌*◌, ◌<◌, ◌≤◌, ◌≡◌, cond, Result, Ok, Err, List, ◌⊎◌, eqb, length, get_or}
 use Rattle.std.specs.Int.Bits.{bit_and}
 use Rattle.scope.specs.Limits.{byte_values, class_limit, state_limit, position_limit, classes_at, marks_at, ways_at, set_words}
 use Rattle.scope.specs.Text.Re.{Re, size, Words}
@@ -16,8 +16,7 @@ use Rattle.scope.specs.Positions.Reached.{ManySets, FewSets}
 use Rattle.scope.specs.Machines.Room.{states_of, classes_of, class_of, mark_of, machine, SoundTable}
 use Rattle.sets.specs.Value.{set_at}
 use Rattle.sets.specs.Layout.{sets_at}
-use Rattle.determinise.specs.declared.Built.{Built}
-use Rattle.determinise.specs.declared.Built.TheVariants.{Done, Classes, States}
+use Rattle.answers.specs.declared.Excess.{Excess}
 
 abbrev pub mark_by : ℕ → ℕ → ℕ
 mark_by finals s = cond (eqb (bit_and s finals) 0) 0 1
@@ -48,12 +47,12 @@ pub record DescribedBy (e : Re) (w m map : List ℕ) (finals : ℕ) : Type 0 whe
   pub ends : finals ≡ final e
 
 -- by cases on the answer
-abbrev pub ImageCase : List ℕ → List ℕ → List ℕ → ℕ → List ℕ → Built → Type 0
-ImageCase w m map finals o Done = (e : Re) → DescribedBy e w m map finals → SoundTable o × Recognises (machine o) (Words e) × FewSets e
-ImageCase w m map finals o Classes = ⊥
-ImageCase w m map finals o States = (e : Re) → DescribedBy e w m map finals → ManySets e
+abbrev pub ImageCase : List ℕ → List ℕ → List ℕ → ℕ → List ℕ → Result (Unit {0}) Excess → Type 0
+ImageCase w m map finals o (Ok _) = (e : Re) → DescribedBy e w m map finals → SoundTable o × Recognises (machine o) (Words e) × FewSets e
+ImageCase w m map finals o (Err Excess.Classes) = ⊥
+ImageCase w m map finals o (Err Excess.States) = (e : Re) → DescribedBy e w m map finals → ManySets e
 
-pub record ImageAnswer (o w m map : List ℕ) (finals : ℕ) (o' w' : List ℕ) (r : Built) : Type 0 where
+pub record ImageAnswer (o w m map : List ℕ) (finals : ℕ) (o' w' : List ℕ) (r : Result (Unit {0}) Excess) : Type 0 where
   pub image : TailKept ways_at o o'
   pub words : TailKept ((sets_at + state_limit) * set_words) w w'
   pub made : ImageCase w m map finals o' r

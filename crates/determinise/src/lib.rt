@@ -8,41 +8,35 @@ ghost use Rattle.scope.specs.Limits.{position_limit};
 ghost use Rattle.sets.specs.Value.{set_value};
 ghost use Rattle.determinise.specs.Build.{Builds};
 
-use byte_classes::Counted;
+use answers::Excess;
+use byte_runs::ByteSets;
+use scope::Machine;
 use sets::Set;
 use sets::layout::IMAGE_AT;
 
 mod image;
 
-// What building answers.
-#[derive(Clone, Copy)]
-pub enum Built {
-    Done,
-    Classes,
-    States,
-}
-
 // Groups the byte values, determinises, and writes a sound room image into the scratch.
-pub fn build(bytes: &mut [u8], words: &mut [u64], count: usize, last: Set, null: bool) -> Built
+pub fn build(
+    bytes: &mut [u8],
+    words: &mut [u64],
+    count: usize,
+    last: Set,
+    null: bool,
+) -> Result<(), Excess>
     requires { (count ≤ position_limit) × Scratch bytes.old words.old }
     ensures { Builds bytes.old words.old count (set_value last.words) null bytes.new words.new result }
 {
-    let ends = byte_runs::find(bytes, count);
-    let groups = byte_classes::group::group(bytes, count, ends);
-    let counted = groups.answer;
-    match counted {
-        Counted::Few(k) => {
-            let map = groups.map;
-            let masks = byte_classes::masks::class_masks(bytes, count, ends, map);
-            image::determinise(
-                &mut bytes[IMAGE_AT..],
-                words,
-                &masks,
-                map,
-                k,
-                image::finals(last, null),
-            )
-        }
-        Counted::Many => Built::Classes,
-    }
+    let sets = ByteSets { bytes, count };
+    let ends = byte_runs::find(sets);
+    let groups = byte_classes::group::group(sets, ends).ok_or(Excess::Classes)?;
+    let mut masks = [0u64; Machine::CLASSES * Machine::SET_WORDS];
+    byte_classes::masks::class_masks(sets, ends, &groups, &mut masks);
+    image::determinise(
+        &mut bytes[IMAGE_AT..],
+        words,
+        &masks,
+        groups,
+        image::finals(last, null),
+    )
 }

@@ -4,7 +4,7 @@
 --   OpenText room text: a text that a field can have while it is open: empty, or not Dead
 --   Valid rooms form: the test
 --   ClosedField rooms form f: what it asks of a closed field
---   NoKeys form from to: no byte between is a key
+--   NoKeys t n: none of the first n bytes of a text is a key
 use Rattle.std.specs.Prelude.{ℕ, ◌<◌, ◌≤◌, ◌≡◌, ◌⊎◌, List, [], get_or}
 use Rattle.entry_form.specs.Text.{Literal, field_room, IsAccepted, IsDead}
 use Rattle.entry_form.specs.EntryForm.{field_limit, text_limit, count_of, closed_of, length_of, entry_byte, text_of, Fields}
@@ -38,6 +38,6 @@ pub record ClosedField (rooms form : List ℕ) (f : ℕ) : Type 0 where
   pub plain : Plain form f
   pub accepted : IsAccepted (field_room rooms f) (text_of form f)
 
--- none of the bytes from `from` up to `to` is a key
-abbrev pub NoKeys : List ℕ → ℕ → ℕ → Type 0
-NoKeys form from to = (i : ℕ) → i < to → from ≤ i → Literal (get_or form i 0)
+-- none of the first n bytes of a text is a key
+abbrev pub NoKeys : List ℕ → ℕ → Type 0
+NoKeys t n = (i : ℕ) → i < n → Literal (get_or t i 0)

@@ -16,27 +16,14 @@ pub fn is_lent(count: usize, rooms: &[u8], form: &[u8]) -> bool
     requires { count < byte_values }
     ensures { Decides result (DeskLent count rooms.now form.now) }
 {
-    if form.len() < FORM_BYTES {
-        return false;
-    }
-    if rooms.len() < count * Machine::ROOM {
-        return false;
-    }
-    true
+    form.len() >= FORM_BYTES && rooms.len() >= count * Machine::ROOM
 }
 
 // Whether a room is sound, as the matcher judges it: it refuses none that is.
 fn is_sound(room: &[u8]) -> bool
     ensures { Decides result (Sound room.now) }
 {
-    let matched = matching::match_text(room, b"");
-    match matched {
-        Matched::Accepted => true,
-        Matched::Dead(_) => true,
-        Matched::Unfinished => true,
-        Matched::Room => false,
-        Matched::Form => false,
-    }
+    matching::match_text(room, b"").is_ok()
 }
 
 // Whether the machines from `from` on, up to `count`, are sound.
@@ -44,13 +31,10 @@ pub fn are_sound(rooms: &[u8], from: usize, count: usize) -> bool
     requires { (count < byte_values) × (count * room_bytes ≤ length rooms.now) }
     ensures { Decides result ((f : ℕ) → f < count → from ≤ f → Sound (field_room rooms.now f)) }
 {
-    let mut f = from;
-    while f < count {
-        let at = f * Machine::ROOM;
-        if !is_sound(&rooms[at..]) {
+    for f in from..count {
+        if !is_sound(crate::room_at(rooms, f)) {
             return false;
         }
-        f += 1;
     }
     true
 }
@@ -60,31 +44,18 @@ pub fn is_within(form: &[u8]) -> bool
     requires { form_bytes ≤ length form.now }
     ensures { Decides result (Fields (count_of form.now) × (closed_of form.now ≤ count_of form.now)) }
 {
-    if form[0] < 1 {
-        return false;
-    }
-    if form[0] as usize > FIELDS {
-        return false;
-    }
-    form[1] <= form[0]
+    form[0] >= 1 && form[0] as usize <= FIELDS && form[1] <= form[0]
 }
 
-// Whether none of the bytes from `from` up to `to` is a key.
-fn has_no_keys(form: &[u8], from: usize, to: usize) -> bool
-    requires { (from ≤ to) × (to ≤ length form.now) }
-    ensures { Decides result (NoKeys form.now from to) }
+// Whether none of the bytes of a text is a key. There is no early end: many are read at a time.
+fn has_no_keys(text: &[u8]) -> bool
+    ensures { Decides result (NoKeys text.now (length text.now)) }
 {
     let mut none = true;
-    let mut i = from;
-    while i < to {
-        let x = form[i];
-        if x == BACK {
+    for x in text {
+        if *x == BACK || *x == CLOSE {
             none = false;
         }
-        if x == CLOSE {
-            none = false;
-        }
-        i += 1;
     }
     none
 }
@@ -95,14 +66,10 @@ pub fn is_plain(form: &[u8], f: usize) -> bool
     ensures { Decides result (Plain form.now f) }
 {
     let long = form[LENGTHS_AT + f] as usize;
-    if long > TEXT {
-        return false;
-    }
     let at = TEXTS_AT + f * TEXT;
-    if buffers::greatest(form, at + long, at + TEXT) > 0 {
-        return false;
-    }
-    has_no_keys(form, at, at + long)
+    long <= TEXT
+        && buffers::greatest(form, at + long, at + TEXT) == 0
+        && has_no_keys(crate::text_at(form, f))
 }
 
 // Whether the fields from f on are empty.
@@ -110,10 +77,8 @@ pub fn are_empty(form: &[u8], f: usize) -> bool
     requires { (f ≤ field_limit) × (form_bytes ≤ length form.now) }
     ensures { Decides result ((g : ℕ) → g < field_limit → f ≤ g → Empty form.now g) }
 {
-    if buffers::greatest(form, LENGTHS_AT + f, TEXTS_AT) > 0 {
-        return false;
-    }
-    buffers::greatest(form, TEXTS_AT + f * TEXT, FORM_BYTES) == 0
+    buffers::greatest(form, LENGTHS_AT + f, TEXTS_AT) == 0
+        && buffers::greatest(form, TEXTS_AT + f * TEXT, FORM_BYTES) == 0
 }
 
 // Whether the machine of the field f accepts its text.
@@ -121,17 +86,8 @@ fn is_accepted(rooms: &[u8], form: &[u8], f: usize) -> bool
     requires { DeskLent (count_of form.now) rooms.now form.now × (f < count_of form.now) × (f < field_limit) × Plain form.now f }
     ensures { Decides result (IsAccepted (field_room rooms.now f) (text_of form.now f)) }
 {
-    let from = f * Machine::ROOM;
-    let at = TEXTS_AT + f * TEXT;
-    let to = at + form[LENGTHS_AT + f] as usize;
-    let matched = matching::match_text(&rooms[from..], &form[at..to]);
-    match matched {
-        Matched::Accepted => true,
-        Matched::Dead(_) => false,
-        Matched::Unfinished => false,
-        Matched::Room => false,
-        Matched::Form => false,
-    }
+    let matched = matching::match_text(crate::room_at(rooms, f), crate::text_at(form, f));
+    matches!(matched, Ok(Matched::Accepted))
 }
 
 // Whether each of the first n fields holds a text that its machine accepts.
@@ -139,15 +95,10 @@ pub fn are_filled(rooms: &[u8], form: &[u8], n: usize) -> bool
     requires { DeskLent (count_of form.now) rooms.now form.now × (n ≤ count_of form.now) × (count_of form.now ≤ field_limit) }
     ensures { Decides result ((f : ℕ) → f < n → ClosedField rooms.now form.now f) }
 {
-    let mut f: usize = 0;
-    while f < n {
-        if !is_plain(form, f) {
+    for f in 0..n {
+        if !is_plain(form, f) || !is_accepted(rooms, form, f) {
             return false;
         }
-        if !is_accepted(rooms, form, f) {
-            return false;
-        }
-        f += 1;
     }
     true
 }

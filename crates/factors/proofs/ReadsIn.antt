@@ -1,10 +1,9 @@
 -- What the grammar reads.
---   mark_told: what the test of a mark says of the byte that it is made on
 --   mark_inside: a mark stands inside of the text
 --   reads_in: what is read ends inside of it
 use Prim.Native.Nat.{ℕ, ◌+◌, ◌<◌, ◌≤◌}
-use mathlib.Core.Path.{◌≡◌, refl, sym, ap, ◌∙◌}
-use mathlib.Core.Bool.{Bool, true}
+use mathlib.Core.Path.{◌≡◌, refl}
+use mathlib.Core.Bool.{true}
 use mathlib.Core.List.{List}
 use native.Mathlib.Omega.{arith}
 use lib.ListN.{length}
@@ -14,9 +13,6 @@ use Rattle.scope.specs.Text.Grammar.{is_mark, Level, Reads, single, no_byte, no_
 use Rattle.scope.proofs.Text.Grammar.{other}
 use Rattle.scope.proofs.Text.Marks.{marks}
 use Rattle.leaves.proofs.ByteByByte.{inside, single_in}
-
-pub mark_told : {b c : ℕ} {r v : Bool} → b ≡ c → r ≡ is_mark b → r ≡ v → is_mark c ≡ v
-mark_told p q h = ap is_mark (sym p) ∙ sym q ∙ h
 
 pub mark_inside : (s : List ℕ) (i : ℕ) → is_mark (byte s i) ≡ true → i < length s
 unfolding is_mark

@@ -4,13 +4,13 @@
 ghost use Rattle.std.specs.Prelude.{◌≤◌, length};
 ghost use Rattle.scope.specs.Text.Grammar.{atoms};
 ghost use Rattle.sets.specs.Layout.{read_words};
-ghost use Rattle.factors.specs.Tails.{GroupAt};
+ghost use Rattle.factors.specs.Tails.{GroupAt, MarkAt};
 ghost use Rattle.factors.specs.Answer.{Fit, Readable, WithMarks, Answer};
 
 use fragments::{Fragment, alone, blank, marked};
 use leaves::single_end;
-use leaves::text::{EMPTY, NOTHING, byte_at, escaped};
-use literals::{OPTION, PLUS, is_mark};
+use leaves::text::{byte_at, escaped};
+use literals::is_mark;
 
 // An atom other than one in parentheses.
 pub fn leaf(text: &[u8], at: usize, count: usize, words: &mut [u64]) -> Fragment
@@ -18,14 +18,19 @@ pub fn leaf(text: &[u8], at: usize, count: usize, words: &mut [u64]) -> Fragment
     requires read_words_in_bounds { read_words ≤ length words.old }
     ensures { Answer atoms text.now at count words.old words.new result }
 {
-    let b = escaped(text, at);
-    if b == EMPTY {
-        return blank(at + 2, count, true);
+    match escaped(text, at) {
+        Some(b'e') => blank(at + 2, count, true),
+        Some(b'0') => blank(at + 2, count, false),
+        _ => alone(single_end(text, at), count, words),
     }
-    if b == NOTHING {
-        return blank(at + 2, count, false);
-    }
-    alone(single_end(text, at), count, words)
+}
+
+// The mark at a place, if one is there.
+fn mark_at(text: &[u8], at: usize) -> Option<u8>
+    ensures { MarkAt text.now at result }
+{
+    let b = byte_at(text, at)?;
+    is_mark(b as usize).then_some(b)
 }
 
 // The part with the marks after it; `from` positions are to its left.
@@ -34,9 +39,8 @@ pub fn marks(text: &[u8], from: usize, part: Fragment, words: &mut [u64]) -> Fra
     ensures { WithMarks text.now from words.old part words.new result }
 {
     let mut all = part;
-    while is_mark(byte_at(text, all.next)) {
-        let b = byte_at(text, all.next);
-        all = marked(from, all, all.next + 1, b != OPTION, b != PLUS, words);
+    while let Some(b) = mark_at(text, all.next) {
+        all = marked(from, all, all.next + 1, b != b'?', b != b'+', words);
     }
     all
 }

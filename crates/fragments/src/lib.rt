@@ -5,9 +5,10 @@ ghost use Rattle.std.specs.Prelude.{true, ◌<◌, ◌≤◌, length};
 ghost use Rattle.scope.specs.Limits.{position_limit};
 ghost use Rattle.sets.specs.Value.{set_bits};
 ghost use Rattle.sets.specs.Layout.{read_words};
-ghost use Rattle.fragments.specs.Shapes.{Linked, Alone, Blank, Beside, Either, Moved, WithMark};
+ghost use Rattle.fragments.specs.Shapes.{Linked, Alone, Blank, Beside, Either, WithMark};
 
 use sets::layout::{FIRST_AT, LAST_AT};
+use spans::Span;
 
 // A part that was read: the place after it, the number of positions up to there, and whether the empty word is there.
 #[derive(Clone, Copy)]
@@ -22,8 +23,12 @@ pub fn alone(next: usize, count: usize, words: &mut [u64]) -> Fragment
     requires { (count < position_limit) × (read_words ≤ length words.old) }
     ensures { Alone next count words.old words.new result }
 {
-    spans::add(words, FIRST_AT, count, count + 1);
-    spans::add(words, LAST_AT, count, count + 1);
+    let position = Span {
+        after: count,
+        upto: count + 1,
+    };
+    spans::add(words, FIRST_AT, position);
+    spans::add(words, LAST_AT, position);
     Fragment {
         next,
         count: count + 1,
@@ -38,16 +43,15 @@ pub fn blank(next: usize, count: usize, null: bool) -> Fragment
     Fragment { next, count, null }
 }
 
-// Puts what First has after `after` up to `upto` into what follows each position that Last has after `from` up to `to`.
-fn link(words: &mut [u64], from: usize, to: usize, after: usize, upto: usize)
-    requires { (from ≤ to) × (to < set_bits) × (read_words ≤ length words.old) }
-    ensures { Linked true from to after upto words.old words.new }
+// Puts what First has of the one span into what follows each position that Last has of the other.
+fn link(words: &mut [u64], lasts: Span, firsts: Span)
+    requires { (lasts.after ≤ lasts.upto) × (lasts.upto < set_bits) × (read_words ≤ length words.old) }
+    ensures { Linked true lasts.after lasts.upto firsts.after firsts.upto words.old words.new }
 {
-    let mut p = from;
-    while p < to {
-        p += 1;
-        let last = spans::is_in(words, LAST_AT, p);
-        spans::put(words, p, last, FIRST_AT, after, upto);
+    for p in lasts.after + 1..lasts.upto + 1 {
+        if spans::is_in(words, LAST_AT, p) {
+            spans::put(words, p, FIRST_AT, firsts);
+        }
     }
 }
 
@@ -56,13 +60,24 @@ pub fn beside(from: usize, a: Fragment, b: Fragment, words: &mut [u64]) -> Fragm
     requires { (from ≤ a.count) × (a.count < set_bits) × (read_words ≤ length words.old) }
     ensures { Beside from a b words.old words.new result }
 {
-    link(words, from, a.count, a.count, b.count);
-    spans::keep(words, FIRST_AT, a.null, a.count, b.count);
-    spans::keep(words, LAST_AT, b.null, from, a.count);
+    let of_a = Span {
+        after: from,
+        upto: a.count,
+    };
+    let of_b = Span {
+        after: a.count,
+        upto: b.count,
+    };
+    link(words, of_a, of_b);
+    if !a.null {
+        spans::remove(words, FIRST_AT, of_b);
+    }
+    if !b.null {
+        spans::remove(words, LAST_AT, of_a);
+    }
     Fragment {
-        next: b.next,
-        count: b.count,
         null: a.null & b.null,
+        ..b
     }
 }
 
@@ -71,20 +86,8 @@ pub fn either(a: Fragment, b: Fragment) -> Fragment
     ensures { Either a b result }
 {
     Fragment {
-        next: b.next,
-        count: b.count,
         null: a.null | b.null,
-    }
-}
-
-// The same positions, with the place after them and whether the empty word is there.
-pub fn moved(a: Fragment, next: usize, null: bool) -> Fragment
-    ensures { Moved a next null result }
-{
-    Fragment {
-        next,
-        count: a.count,
-        null,
+        ..b
     }
 }
 
@@ -100,10 +103,16 @@ pub fn marked(
     requires { (from ≤ a.count) × (a.count < set_bits) × (read_words ≤ length words.old) }
     ensures { WithMark repeats skips from a next words.old words.new result }
 {
-    let r = moved(a, next, skips | a.null);
     if repeats {
-        link(words, from, a.count, from, a.count);
-        return r;
+        let of_a = Span {
+            after: from,
+            upto: a.count,
+        };
+        link(words, of_a, of_a);
     }
-    r
+    Fragment {
+        next,
+        null: skips | a.null,
+        ..a
+    }
 }

@@ -1,103 +1,85 @@
 // Inside one atom: the bytes of its class, with their ranges, and escapes, of the atom itself and of the bytes of a class.
 #![tactic(auto)]
 
-ghost use Rattle.std.specs.Prelude.{◌<◌, ◌≤◌};
+ghost use Rattle.std.specs.Prelude.{◌≡◌, ◌≢◌, ◌<◌};
 ghost use Rattle.modes.specs.Modes.{back, code, digit};
 ghost use Rattle.judge_state.specs.Reading.{piece_of, Bounded};
 ghost use Rattle.judge_inside.specs.Steps.{Begins, Placeless, Advances};
 
-use judge_state::Reading;
+use judge_state::{Piece, Reading, Stage};
 
 // The byte b, where a byte of a class may begin.
-fn begin_byte(mut x: Reading, b: u8) -> Reading
-    requires { 0 < x.piece }
-    ensures begins { Begins (piece_of x.piece) x b 0 result }
-    ensures bounded { Bounded x result }
+pub fn begin_byte(x: &mut Reading, b: u8)
+    requires { x.old.piece ≢ Piece.Atom }
+    ensures begins { Begins (piece_of x.old.piece) x.old b 0 x.new }
+    ensures bounded { Bounded x.old x.new }
 {
-    if literals::is_bare(b) {
-        return x.read_as(b);
+    match b {
+        _ if literals::is_bare(b) => x.read_as(b),
+        b'\\' => x.stage = Stage::Back,
+        _ => x.stage = Stage::Stuck,
     }
-    if b == b'\\' {
-        x.stage = Reading::BACK;
-        return x;
-    }
-    x.stuck()
 }
 
-// The byte b, where a byte of a class is awaited or done.
-pub fn at_byte(mut x: Reading, b: u8, place: usize) -> Reading
-    requires { (0 < x.piece) × (x.stage ≤ 1) }
-    ensures advances { Advances x b place result }
-    ensures bounded { Bounded x result }
+// The byte b, after a byte of a class.
+pub fn after_byte(x: &mut Reading, b: u8, place: usize)
+    requires { (x.old.stage ≡ Stage.Done) × (x.old.piece ≢ Piece.Atom) }
+    ensures advances { Advances x.old b place x.new }
+    ensures bounded { Bounded x.old x.new }
 {
-    let stage = x.stage;
-    let piece = x.piece;
-    if stage == Reading::AWAIT {
-        return begin_byte(x, b);
-    }
-    if b == b']' {
-        x.piece = Reading::ATOM;
-        return x;
-    }
-    if b == b'-' {
-        if piece == Reading::LOW {
-            x.stage = Reading::AWAIT;
-            x.piece = Reading::HIGH;
-            x.from = place;
-            return x;
+    match b {
+        b']' => x.piece = Piece::Atom,
+        b'-' => match x.piece {
+            Piece::Low => {
+                x.stage = Stage::Await;
+                x.piece = Piece::High;
+                x.from = place;
+            }
+            Piece::Atom | Piece::High => x.stage = Stage::Stuck,
+        },
+        _ => {
+            x.piece = Piece::Low;
+            begin_byte(x, b);
         }
-        return x.stuck();
     }
-    x.piece = Reading::LOW;
-    begin_byte(x, b)
 }
 
 // The byte b, after a backslash.
-pub fn after_back(mut x: Reading, b: u8) -> Reading
-    ensures placeless { Placeless (back (piece_of x.piece)) x b result }
-    ensures bounded { Bounded x result }
+pub fn after_back(x: &mut Reading, b: u8)
+    ensures placeless { Placeless (back (piece_of x.old.piece)) x.old b x.new }
+    ensures bounded { Bounded x.old x.new }
 {
-    if literals::is_escapable(b) {
-        return x.read_as(b);
+    match (b, x.piece) {
+        _ if literals::is_escapable(b) => x.read_as(b),
+        (b'x', _) => x.stage = Stage::Code,
+        (b'e' | b'0', Piece::Atom) => x.stage = Stage::Done,
+        _ => x.stage = Stage::Stuck,
     }
-    if b == b'x' {
-        x.stage = Reading::CODE;
-        return x;
-    }
-    let piece = x.piece;
-    if piece == Reading::ATOM {
-        if b == b'e' || b == b'0' {
-            x.stage = Reading::DONE;
-            return x;
-        }
-    }
-    x.stuck()
 }
 
 // The byte b, where the first digit of a code is awaited.
-pub fn after_code(mut x: Reading, b: u8) -> Reading
-    ensures placeless { Placeless (code (piece_of x.piece)) x b result }
-    ensures bounded { Bounded x result }
+pub fn after_code(x: &mut Reading, b: u8)
+    ensures placeless { Placeless (code (piece_of x.old.piece)) x.old b x.new }
+    ensures bounded { Bounded x.old x.new }
 {
-    let value = literals::hex_value(b);
-    if value < 16 {
-        x.stage = Reading::DIGIT;
-        x.half = value;
-        return x;
+    match literals::hex_value(b) {
+        Some(value) => {
+            x.stage = Stage::Digit;
+            x.half = value;
+        }
+        None => x.stage = Stage::Stuck,
     }
-    x.stuck()
 }
 
 // The byte b, where the second is.
-pub fn after_digit(x: Reading, b: u8) -> Reading
-    requires { x.half < 16 }
-    ensures placeless { Placeless (digit (piece_of x.piece)) x b result }
-    ensures bounded { Bounded x result }
+pub fn after_digit(x: &mut Reading, b: u8)
+    requires { x.old.half < 16 }
+    ensures placeless { Placeless (digit (piece_of x.old.piece)) x.old b x.new }
+    ensures bounded { Bounded x.old x.new }
 {
-    let value = literals::hex_value(b);
-    if value < 16 {
-        let half = x.half;
-        return x.read_as(half * 16 + value);
+    let half = x.half;
+    match literals::hex_value(b) {
+        Some(value) => x.read_as(half * 16 + value),
+        None => x.stage = Stage::Stuck,
     }
-    x.stuck()
 }

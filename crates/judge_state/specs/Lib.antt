@@ -1,2 +1,2 @@
--- The code's numbers, and what they stand for.
+-- What the code's stages, pieces and records stand for.
 pub mod Reading

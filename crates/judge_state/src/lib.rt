@@ -3,13 +3,32 @@
 
 ghost use Rattle.std.specs.Prelude.{◌≡◌, ◌≤◌};
 ghost use Rattle.scope.specs.Limits.{position_limit};
-ghost use Rattle.modes.specs.Modes.{stuck};
 ghost use Rattle.modes.specs.Notes.{blank};
-ghost use Rattle.judge_state.specs.Reading.{standing, NotesKept, TallyMore, ReadAs, Bounded};
+ghost use Rattle.judge_state.specs.Reading.{NotesKept, TallyMore, TallyBeyond, ReadAs, Bounded};
 
 use scope::Machine;
 
-// How many places of a kind there were, counted to one beyond a limit, and the last that was counted.
+// How far a piece has come: it is awaited; it is done; its escape has come to the backslash, to the x, to the first digit; no byte goes on.
+#[derive(Clone, Copy, PartialEq, Eq)]
+pub enum Stage {
+    Await,
+    Done,
+    Back,
+    Code,
+    Digit,
+    Stuck,
+}
+
+// The pieces: an atom, a byte in a class, the high end of a range.
+#[derive(Clone, Copy, PartialEq, Eq)]
+pub enum Piece {
+    Atom,
+    Low,
+    High,
+}
+
+// How many places of a kind there were, counted to one beyond a limit, and the last that was counted. Of limit 0 it is the first place, if there is one: one type does for
+// all three tallies.
 #[derive(Clone, Copy)]
 pub struct Tally {
     pub count: usize,
@@ -18,18 +37,21 @@ pub struct Tally {
 
 impl Tally {
     // One place more.
-    pub fn more(self, limit: usize, place: usize) -> Tally
+    pub fn more(&mut self, limit: usize, place: usize)
         requires { limit ≤ position_limit }
-        ensures { TallyMore limit self place result }
+        ensures { TallyMore limit self.old place self.new }
     {
-        let count = self.count;
-        if limit < count {
-            return self;
+        if self.count <= limit {
+            self.count += 1;
+            self.place = place;
         }
-        Tally {
-            count: count + 1,
-            place,
-        }
+    }
+
+    // The first place beyond the limit, if there are so many.
+    pub fn beyond(self, limit: usize) -> Option<usize>
+        ensures { TallyBeyond limit self result }
+    {
+        (limit < self.count).then_some(self.place)
     }
 }
 
@@ -38,8 +60,8 @@ impl Tally {
 // parentheses that open inside as many others as may be, and the positions.
 #[derive(Clone, Copy)]
 pub struct Reading {
-    pub stage: u8,
-    pub piece: u8,
+    pub stage: Stage,
+    pub piece: Piece,
     pub half: u8,
     pub least: u8,
     pub deep: usize,
@@ -50,35 +72,15 @@ pub struct Reading {
 }
 
 impl Reading {
-    // The stages: a piece is awaited; it is done; its escape has come to the backslash, to the x, to the first digit; no byte goes on.
-    pub const AWAIT: u8 = 0;
-
-    pub const DONE: u8 = 1;
-
-    pub const BACK: u8 = 2;
-
-    pub const CODE: u8 = 3;
-
-    pub const DIGIT: u8 = 4;
-
-    pub const STUCK: u8 = 5;
-
-    // The pieces: an atom, a byte in a class, the high end of a range.
-    pub const ATOM: u8 = 0;
-
-    pub const LOW: u8 = 1;
-
-    pub const HIGH: u8 = 2;
-
     // Before the first byte.
     pub fn new() -> Reading
-        ensures stage_value { (result.stage ≡ 0) × (result.piece ≡ 0) × (result.deep ≡ 0) × (result.half ≡ 0) }
+        ensures stage_value { (result.stage ≡ Stage.Await) × (result.piece ≡ Piece.Atom) × (result.deep ≡ 0) × (result.half ≡ 0) }
         ensures notes_kept { NotesKept blank result }
     {
         let none = Tally { count: 0, place: 0 };
         Reading {
-            stage: Reading::AWAIT,
-            piece: Reading::ATOM,
+            stage: Stage::Await,
+            piece: Piece::Atom,
             half: 0,
             least: 0,
             deep: 0,
@@ -89,38 +91,19 @@ impl Reading {
         }
     }
 
-    // No byte goes on.
-    pub fn stuck(mut self) -> Reading
-        ensures result_value { standing result ≡ stuck }
-        ensures bounded { Bounded self result }
-    {
-        self.stage = Reading::STUCK;
-        self
-    }
-
     // The piece is read, and is the byte value.
-    pub fn read_as(mut self, value: u8) -> Reading
-        ensures read_as { ReadAs value self result }
-        ensures bounded { Bounded self result }
-        ensures deep_value { result.deep ≡ self.deep }
+    pub fn read_as(&mut self, value: u8)
+        ensures read_as { ReadAs value self.old self.new }
+        ensures bounded { Bounded self.old self.new }
+        ensures deep_value { self.new.deep ≡ self.old.deep }
     {
-        let piece = self.piece;
         let from = self.from;
-        self.stage = Reading::DONE;
-        if piece == Reading::ATOM {
-            let firsts = self.firsts;
-            self.firsts = firsts.more(Machine::POSITIONS, from);
-            return self;
+        self.stage = Stage::Done;
+        match self.piece {
+            Piece::Atom => self.firsts.more(Machine::POSITIONS, from),
+            Piece::Low => self.least = value,
+            Piece::High if value < self.least => self.falls.more(0, from),
+            Piece::High => {}
         }
-        if piece == Reading::LOW {
-            self.least = value;
-            return self;
-        }
-        if value < self.least {
-            let falls = self.falls;
-            self.falls = falls.more(0, from);
-            return self;
-        }
-        self
     }
 }

@@ -1,109 +1,79 @@
 // One byte more of a text: what is known after it, of what was known before it.
 #![tactic(auto)]
 
-ghost use Rattle.std.specs.Prelude.{◌≡◌, ◌<◌, ◌≤◌};
+ghost use Rattle.std.specs.Prelude.{◌≡◌, ◌<◌};
 ghost use Rattle.modes.specs.Modes.{atom};
 ghost use Rattle.judge_state.specs.Reading.{Bounded};
 ghost use Rattle.judge_inside.specs.Steps.{Begins, Advances};
 ghost use Rattle.judge_step.specs.Nests.{Nests};
 
-use judge_state::Reading;
+use judge_state::{Piece, Reading, Stage};
 use scope::Machine;
 
 // A parenthesis opens.
-fn nest(mut x: Reading, place: usize) -> Reading
-    requires { (x.deep < 18446744073709551615) × (x.piece ≡ 0) }
-    ensures nests { Nests place x result }
-    ensures bounded { Bounded x result }
+fn nest(x: &mut Reading, place: usize)
+    requires { (x.old.deep < 18446744073709551615) × (x.old.piece ≡ Piece.Atom) }
+    ensures nests { Nests place x.old x.new }
+    ensures bounded { Bounded x.old x.new }
 {
-    let deep = x.deep;
-    x.stage = Reading::AWAIT;
-    x.deep = deep + 1;
-    if deep == Machine::NESTED {
-        let opens = x.opens;
-        x.opens = opens.more(0, place);
-        return x;
+    let around = x.deep;
+    x.stage = Stage::Await;
+    x.deep += 1;
+    if around == Machine::NESTED {
+        x.opens.more(0, place);
     }
-    x
 }
 
 // The byte b, where an atom may begin.
-fn begin_atom(mut x: Reading, b: u8, place: usize) -> Reading
-    requires { (x.deep < 18446744073709551615) × (x.piece ≡ 0) }
-    ensures begins { Begins atom x b place result }
-    ensures bounded { Bounded x result }
+fn begin_atom(x: &mut Reading, b: u8, place: usize)
+    requires { (x.old.deep < 18446744073709551615) × (x.old.piece ≡ Piece.Atom) }
+    ensures begins { Begins atom x.old b place x.new }
+    ensures bounded { Bounded x.old x.new }
 {
     x.from = place;
-    if literals::is_literal(b) {
-        return x.read_as(b);
+    match b {
+        _ if literals::is_literal(b) => x.read_as(b),
+        b'\\' => x.stage = Stage::Back,
+        b'.' => x.read_as(b),
+        b'[' => {
+            x.read_as(b);
+            x.stage = Stage::Await;
+            x.piece = Piece::Low;
+        }
+        b'(' => nest(x, place),
+        _ => x.stage = Stage::Stuck,
     }
-    if b == b'\\' {
-        x.stage = Reading::BACK;
-        return x;
-    }
-    if b == b'.' {
-        return x.read_as(b);
-    }
-    if b == b'[' {
-        let mut class = x.read_as(b);
-        class.stage = Reading::AWAIT;
-        class.piece = Reading::LOW;
-        return class;
-    }
-    if b == b'(' {
-        return nest(x, place);
-    }
-    x.stuck()
 }
 
-// The byte b, where an atom is awaited or done.
-fn at_atom(mut x: Reading, b: u8, place: usize) -> Reading
-    requires { (x.deep < 18446744073709551615) × (x.piece ≡ 0) × (x.stage ≤ 1) }
-    ensures advances { Advances x b place result }
-    ensures bounded { Bounded x result }
+// The byte b, after an atom.
+fn after_atom(x: &mut Reading, b: u8, place: usize)
+    requires { (x.old.deep < 18446744073709551615) × (x.old.piece ≡ Piece.Atom) × (x.old.stage ≡ Stage.Done) }
+    ensures advances { Advances x.old b place x.new }
+    ensures bounded { Bounded x.old x.new }
 {
-    if x.stage == Reading::AWAIT {
-        return begin_atom(x, b, place);
+    match b {
+        _ if literals::is_mark(b as usize) => {}
+        b'|' => x.stage = Stage::Await,
+        b')' if 0 < x.deep => x.deep -= 1,
+        b')' => x.stage = Stage::Stuck,
+        _ => begin_atom(x, b, place),
     }
-    if literals::is_mark(b as usize) {
-        return x;
-    }
-    if b == b'|' {
-        x.stage = Reading::AWAIT;
-        return x;
-    }
-    if b == b')' {
-        let deep = x.deep;
-        if deep == 0 {
-            return x.stuck();
-        }
-        x.deep = deep - 1;
-        return x;
-    }
-    begin_atom(x, b, place)
 }
 
-// One byte more, at place.
-pub fn advance(x: Reading, b: u8, place: usize) -> Reading
-    requires { (x.deep < 18446744073709551615) × (x.half < 16) }
-    ensures advances { Advances x b place result }
-    ensures bounded { Bounded x result }
+// One byte more, at place. That one parenthesis more can be counted is required of each step: `judge` alone knows that a text has fewer bytes.
+pub fn advance(x: &mut Reading, b: u8, place: usize)
+    requires { (x.old.deep < 18446744073709551615) × (x.old.half < 16) }
+    ensures advances { Advances x.old b place x.new }
+    ensures bounded { Bounded x.old x.new }
 {
-    let stage = x.stage;
-    if stage <= Reading::DONE {
-        if x.piece == Reading::ATOM {
-            return at_atom(x, b, place);
-        }
-        return judge_inside::at_byte(x, b, place);
+    match (x.stage, x.piece) {
+        (Stage::Await, Piece::Atom) => begin_atom(x, b, place),
+        (Stage::Await, _) => judge_inside::begin_byte(x, b),
+        (Stage::Done, Piece::Atom) => after_atom(x, b, place),
+        (Stage::Done, _) => judge_inside::after_byte(x, b, place),
+        (Stage::Back, _) => judge_inside::after_back(x, b),
+        (Stage::Code, _) => judge_inside::after_code(x, b),
+        (Stage::Digit, _) => judge_inside::after_digit(x, b),
+        (Stage::Stuck, _) => {}
     }
-    if stage == Reading::BACK {
-        return judge_inside::after_back(x, b);
-    }
-    if stage == Reading::CODE {
-        return judge_inside::after_code(x, b);
-    }
-    if stage == Reading::DIGIT {
-        return judge_inside::after_digit(x, b);
-    }
-    x
 }

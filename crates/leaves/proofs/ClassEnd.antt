@@ -13,7 +13,7 @@ use Rattle.scope.specs.Text.Grammar.{class_literal, hex, Escape, plain, coded, C
 use Rattle.scope.specs.Text.Tree.{Item}
 use Rattle.scope.proofs.Text.Grammar.{other}
 use Rattle.leaves.specs.ReadAt.{Some, WholeItems, EndsAt}
-use Rattle.leaves.proofs.ClassItems.{ends, items_bounds}
+use Rattle.leaves.proofs.ClassItems.{ends, items_bounds, closed_in}
 
 pub data Along (s : List ℕ) : ℕ → ℕ → Type 0 where
   here : {j : ℕ} → byte s j ≡ code "]" → Along s j j
@@ -55,11 +55,6 @@ module _ {s : List ℕ} where
   along_up (pair h r) = omega (arith, along_up r)
 
   module _ {b : ℕ} where
-    along_on : {i j : ℕ} → b ≡ byte s i → (b ≡ code "]" → ⊥) → Along s i j → i < j
-    along_on q n (here h) = absurd (n (q ∙ h))
-    along_on q n (over m k r) = omega (arith, along_up r)
-    along_on q n (pair h r) = omega (arith, along_up r)
-
     along_one : {i j : ℕ} → b ≡ byte s i → (b ≡ code "]" → ⊥) → (b ≡ code "\\" → ⊥) → Along s i j → Along s (i + 1) j
     along_one q n m (here h) = absurd (n (q ∙ h))
     along_one q n m (over k l r) = r
@@ -78,10 +73,10 @@ module _ {s : List ℕ} where
   pub class_all : (i : ℕ) → WithinClass s i i
   class_all i = record { says = λ j l (r, h). items_along r (here h) }
 
-  module _ {at i b : ℕ} (f : WithinClass s at i) (q : b ≡ byte s i) where
-    pub class_inside : Some WholeItems s at → (b ≡ code "]" → ⊥) → i < length s
-    class_inside p n = omega (arith, along_on q n (f.says p.end p.what p.reads), items_bounds p.end p.what p.reads)
+  pub class_inside : {at i : ℕ} → Some WholeItems s at → WithinClass s at i → i < length s
+  class_inside p f = omega (arith, along_up (f.says p.end p.what p.reads), closed_in p.reads)
 
+  module _ {at i b : ℕ} (f : WithinClass s at i) (q : b ≡ byte s i) where
     pub class_one : (b ≡ code "]" → ⊥) → (b ≡ code "\\" → ⊥) → WithinClass s at (i + 1)
     class_one n m = record { says = λ j l w. along_one q n m (f.says j l w) }
 

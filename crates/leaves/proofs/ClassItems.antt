@@ -1,12 +1,12 @@
 -- Classes item by item: whatever can be read there is what the reader takes, since the bytes that it looks at decide.
 --   some: something that can be read begins inside of the text
 --   ends, took: what is said of every reading, with one that there is
---   items_bounds: the items of a class move on and end inside of the text
---   item_low, item_high: the bytes of an item can be read
+--   items_bounds, closed_in: the items of a class move on and end inside of the text, and so does their `]`
+--   item_high: the second byte of an item can be read
 --   item_range, item_lone: an item was read
 --   Todo s i j l: the items l, or none, are left between i and j
 --   Rest s i k m m' j l: of the items l of a class that ends at j, some are left at i; Rests: so it is for every class that can be read
---   rest_all, rest_item, rest_more, rest_none: all are left; there is one more; it was read; none is left
+--   rest_all, rest_in, rest_item, rest_more, rest_none: all are left; the place is inside of the text; there is one more item; it was read; none is left
 use Prim.Native.Nat.{ℕ, ◌+◌, ◌<◌, ◌≤◌}
 use Prim.Native.Char.{code}
 use mathlib.Core.Path.{◌≡◌, refl, sym, ap, subst, ◌∙◌}
@@ -21,7 +21,7 @@ use Rattle.scope.specs.Text.Tree.{Item, lone, range, item_set, items_set}
 use Rattle.scope.proofs.Text.Grammar.{class_byte_on, class_byte_one, item_on, items_on, items_head}
 use Rattle.leaves.specs.GrownSets.{SetGrown}
 use Rattle.leaves.specs.ReadAt.{Some, WholeItem, WholeItems, EndsAt, Took}
-use Rattle.leaves.proofs.ByteByByte.{class_byte_in, item_in, items_in}
+use Rattle.leaves.proofs.ByteByByte.{inside, class_byte_in, item_in, items_in}
 use Rattle.leaves.proofs.GrownSets.{Left, left_all, left_more, left_none, grown_as, between_one}
 
 -- a reading that moves on and ends inside of the text begins there
@@ -44,14 +44,11 @@ module _ {s : List ℕ} where
   pub items_bounds : {i : ℕ} (j : ℕ) (l : List Item) → WholeItems s i j l → (i < j) × (j ≤ length s)
   items_bounds j l (r, h) = (items_on r, items_in r)
 
+  -- the `]` at their end does, too
+  pub closed_in : {i j : ℕ} {l : List Item} → WholeItems s i j l → j < length s
+  closed_in {j = j} (r, h) = inside s j (λ e. omega arith)
+
   -- ---- an item
-
-  low_of : {i j : ℕ} {x : Item} → length s ≤ pattern_limit → OneItem s i j x → Some ClassByte s i
-  low_of h (one_byte c) = some ClassByte h c (class_byte_on c) (class_byte_in c)
-  low_of h (low_high c e d) = some ClassByte h c (class_byte_on c) (class_byte_in c)
-
-  pub item_low : {i : ℕ} → Some WholeItem s i → Some ClassByte s i
-  item_low p = low_of p.short p.reads.0
 
   at : {i j a : ℕ} {b : ℕ} → i ≡ a → ClassByte s (i + 1) j b → ClassByte s (a + 1) j b
   at {j = j} {b = b} e c = subst (λ (n : ℕ). ClassByte s (n + 1) j b) e c
@@ -120,6 +117,14 @@ module _ {s : List ℕ} where
 
   pub rest_all : (i k : ℕ) (m : List ℕ) → ItemsLeft s i i k m m
   rest_all i k m = record { says = λ j l (r, h). record { rest = l; todo = more r; left = left_all k (items_set l) m } }
+
+  todo_in : {i j : ℕ} {l : List Item} → Todo s i j l → j < length s → i < length s
+  todo_in none h = h
+  todo_in (more l) h = omega (arith, items_on l)
+
+  -- the place is inside of the text
+  pub rest_in : {at i k : ℕ} {m m' : List ℕ} → Some WholeItems s at → ItemsLeft s at i k m m' → i < length s
+  rest_in p f = todo_in (f.says p.end p.what p.reads).todo (closed_in p.reads)
 
   module _ {at i k b : ℕ} {m m' : List ℕ} (p : Some WholeItems s at) (f : ItemsLeft s at i k m m') (q : b ≡ byte s i) where
     -- there is one more item

@@ -1,32 +1,29 @@
 -- Byte sets that grow byte by byte and item by item. What is held now, with what is left to put in, is always what was held at first, with all that is to be put in.
 --   Left k s r m m': of the bytes s, which are to come into the set number k, the bytes r are left
 --   left_all, left_more, left_none: nothing is put in yet; some more is; nothing is left
---   between_is, between_split, between_none, between_one: a range: what it decides; two parts of it; none; one byte
+--   between_is, between_eight, between_none, between_one: a range: what it decides; its bytes in one byte of a set, and the others; none; one byte
 --   has_range: the number whose bits are those of a range
 --   grown_range: the bits of a range that lie in one byte were stored
 --   grown_both: two sets, one after the other
 --   grown_as: the same bytes under another name
-use Prim.Native.Nat.{ℕ, zero, suc, ◌+◌, ◌-◌, ◌*◌, ◌/◌, ◌%◌, ◌^◌, ◌<◌, ◌≤◌}
+use Prim.Native.Nat.{ℕ, ◌+◌, ◌-◌, ◌*◌, ◌/◌, ◌%◌, ◌^◌, ◌<◌, ◌≤◌, min, max}
 use mathlib.Core.Path.{◌≡◌, refl, sym, ap, ap₂, ◌∙◌}
-use mathlib.Core.Bool.{Bool, false, ◌&&◌, ◌||◌, and-false, or-false, or_assoc, and-or_distrib_left}
+use mathlib.Core.Bool.{Bool, false, ◌&&◌, ◌||◌, beq, and-false, or-false, or_assoc, and-or_distrib_left}
 use mathlib.Core.List.{List}
 use mathlib.Core.Logic.{inl, inr}
 use native.Mathlib.Decide.{ℕ_discrete}
-use native.Mathlib.Nat.{pow-suc}
 use native.Mathlib.Omega.{arith}
-use borrow.Author.Tests.{ne_eqb}
-use lib.Bits.{bit_or}
-use lib.Dec.{eqb}
+use lib.Bits.{bit_and, bit_or}
+use lib.Dec.{eqb, ltb}
 use lib.ListN.{length, get_or, set, length-set}
-use lib.Pow.{pow_pos}
 use lib.Seq.{get_or-set_same, get_or-set_other}
 use Rattle.scope.specs.Positions.Bits.{has}
 use Rattle.scope.specs.Operations.Buffers.{TailKept}
 use Rattle.scope.specs.Bytes.{ByteSet, between}
 use Rattle.scope.specs.Limits.{byte_values, position_limit}
 use Rattle.scope.specs.Tests.{Tests}
-use Rattle.scope.proofs.Positions.Bits.{has_or, has_half, has_ones, has_small}
-use Rattle.scope.proofs.Counting.Tests.{split, same_test, never, or, and, itself, equals, at_most}
+use Rattle.scope.proofs.Positions.Bits.{has_or, has_small}
+use Rattle.scope.proofs.Counting.Tests.{all, all_is, split, same_bool, same_test, never, or, and, itself, equals, at_most, below}
 use Rattle.scope.proofs.Operations.Buffers.{all_kept, tail_then}
 use Rattle.sets.specs.Layout.{byte_set, byte_sets, held}
 use Rattle.leaves.specs.GrownSets.{SetGrown}
@@ -68,13 +65,13 @@ pub between_is : (b c n : ℕ) → Tests (between b c n) ((b ≤ n) × (n ≤ c)
 unfolding between
 between_is b c n = and (at_most b n) (at_most n c)
 
--- the bytes before z, and the others
-pub between_split : (b z c n : ℕ) → b < z → z ≤ c + 1 → between b c n ≡ (between b (z - 1) n || between z c n)
-between_split b z c n h k =
+-- of the bytes from 8 * i on, those before the next multiple of 8, and the others
+pub between_eight : (low high i n : ℕ) → between (max low (8 * i)) high n ≡ (between (max low (8 * i)) (min high (8 * i + 7)) n || between (max low (8 * (i + 1))) high n)
+between_eight low high i n =
     same
-    (between_is b c n)
-    (or (between_is b (z - 1) n) (between_is z c n))
-    (λ x. elim (split n z) [ inl l ↦ inl (x.0, omega arith) | inr l ↦ inr (l, x.1) ])
+    (between_is _ high n)
+    (or (between_is _ (min high (8 * i + 7)) n) (between_is (max low (8 * (i + 1))) high n))
+    (λ x. elim (split n (8 * (i + 1))) [ inl l ↦ inl (x.0, omega (arith, x.1)) | inr l ↦ inr (omega (arith, x.0), x.1) ])
     (λ x. elim x [ inl y ↦ (y.0, omega (arith, y.1)) | inr y ↦ (omega (arith, y.0), y.1) ])
 
 -- a range that falls is empty
@@ -87,59 +84,56 @@ between_one b n = same (between_is b b n) (equals n b) (λ x. omega (arith, x.0,
 
 -- ---- the bits of a range
 
--- the number that has the bits 0 to t
-has_lowest : (t n : ℕ) → has (2 ^ suc t - 1) n ≡ between 0 t n
-has_lowest t n =
-    same
-    (itself _)
-    (between_is 0 t n)
-    (λ e. (omega arith, omega (arith, has_small (2 ^ suc t - 1) n (suc t) e (omega (arith, pow_pos (suc t))))))
-    (λ x. has_ones (suc t) n (omega (arith, x.1)))
+-- the byte that has the bits s to t
+range_bits : ℕ → ℕ → ℕ
+range_bits s t = bit_and (255 * 2 ^ s % 256) (255 / 2 ^ (7 - t))
 
--- the number that has the bits s to t
-pub has_range : (s t n : ℕ) → s ≤ t → has (2 ^ suc t - 2 ^ s) n ≡ between s t n
-has_range zero t n h = has_lowest t n
-has_range (suc s) zero n h = absurd (omega arith)
-has_range (suc s) (suc t) zero h =
-    ne_eqb ((2 ^ suc (suc t) - 2 ^ suc s) / 1 % 2) 1 (λ e. omega (arith, e, pow-suc 2 (suc t), pow-suc 2 s))
-    ∙ same (never (λ x. x)) (between_is (suc s) (suc t) 0) (λ x. absurd x) (λ x. omega (arith, x.0))
-has_range (suc s) (suc t) (suc n) h =
-    let half : (2 ^ suc (suc t) - 2 ^ suc s) / 2 ≡ 2 ^ suc t - 2 ^ s = omega (arith, pow-suc 2 (suc t), pow-suc 2 s) in
-    has_half (2 ^ suc (suc t) - 2 ^ suc s) n
-    ∙ ap (λ (m : ℕ). has m n) half
-    ∙ has_range s t n (omega arith)
-    ∙ same (between_is s t n) (between_is (suc s) (suc t) (suc n)) (λ x. (omega (arith, x.0), omega (arith, x.1))) (λ x. (omega (arith, x.0), omega (arith, x.1)))
+-- by computing
+bits_below : (s t n : ℕ) → s < 8 → t < 8 → n < 8 → has (range_bits s t) n ≡ between s t n
+unfolding range_bits between
+bits_below s t n h k l =
+    let e = (all_is (λ i. all (λ j. all (λ b. beq (has (range_bits i j) b) (between i j b)) 8) 8) 8).sound refl s h in
+    (same_bool _ _).sound ((all_is (λ b. beq (has (range_bits s t) b) (between s t b)) 8).sound ((all_is (λ j. all (λ b. beq (has (range_bits s j) b) (between s j b)) 8) 8).sound e t k) n l)
+
+bits_byte : (s t : ℕ) → s < 8 → t < 8 → range_bits s t < 2 ^ 8
+unfolding range_bits
+bits_byte s t h k = (below _ (2 ^ 8)).sound ((all_is (λ j. ltb (range_bits s j) (2 ^ 8)) 8).sound ((all_is (λ i. all (λ j. ltb (range_bits i j) (2 ^ 8)) 8) 8).sound refl s h) t k)
+
+pub has_range : (s t n : ℕ) → s < 8 → t < 8 → has (bit_and (255 * 2 ^ s % 256) (255 / 2 ^ (7 - t))) n ≡ between s t n
+unfolding range_bits
+has_range s t n h k = elim (split n 8) [ inl l ↦ bits_below s t n h k l | inr l ↦ same (itself _) (between_is s t n) (λ e. absurd (omega (arith, has_small (range_bits s t) n 8 e (bits_byte s t h k)))) (λ x. absurd (omega (arith, x.1))) ]
 
 -- ---- bits stored
 
--- the same place: the same set and the same byte
-meets : (q k b c n : ℕ) → b < byte_values → n < byte_values → c / 8 ≡ b / 8 → q * byte_set + n / 8 ≡ k * byte_set + b / 8 → between (b % 8) (c % 8) (n % 8) ≡ (eqb q k && between b c n)
-meets q k b c n h l g e =
-    same
-    (between_is (b % 8) (c % 8) (n % 8))
-    (and (equals q k) (between_is b c n))
-    (λ x. (omega arith, (omega (arith, x.0), omega (arith, x.1))))
-    (λ x. (omega (arith, x.1.0), omega (arith, x.1.1)))
+module _ (k i b c : ℕ) (d : b / 8 ≡ i) (e : c / 8 ≡ i) where
+  -- the same place: the same set and the same byte
+  meets : (q n : ℕ) → i < byte_set → n < byte_values → q * byte_set + n / 8 ≡ k * byte_set + i → between (b % 8) (c % 8) (n % 8) ≡ (eqb q k && between b c n)
+  meets q n h l g =
+      same
+      (between_is (b % 8) (c % 8) (n % 8))
+      (and (equals q k) (between_is b c n))
+      (λ x. (omega arith, (omega (arith, x.0), omega (arith, x.1))))
+      (λ x. (omega (arith, x.1.0), omega (arith, x.1.1)))
 
--- another place: another set or another byte
-misses : (q k b c n : ℕ) → c / 8 ≡ b / 8 → (q * byte_set + n / 8 ≡ k * byte_set + b / 8 → ⊥) → (eqb q k && between b c n) ≡ false
-misses q k b c n g ne = same (and (equals q k) (between_is b c n)) (never (λ x. x)) (λ x. ne (omega (arith, x.0, x.1.0, x.1.1))) (λ x. absurd x)
+  -- another place: another set or another byte
+  misses : (q n : ℕ) → (q * byte_set + n / 8 ≡ k * byte_set + i → ⊥) → (eqb q k && between b c n) ≡ false
+  misses q n f = same (and (equals q k) (between_is b c n)) (never (λ x. x)) (λ x. f (omega (arith, x.0, x.1.0, x.1.1))) (λ x. absurd x)
 
--- the bits of the bytes b to c, which lie in one byte, were stored
-pub grown_range : (k b c v : ℕ) (m : List ℕ) → k < position_limit → byte_sets ≤ length m → b < byte_values → c / 8 ≡ b / 8 → ((n : ℕ) → has v n ≡ between (b % 8) (c % 8) n)
-    → SetGrown k (between b c) m (set m (k * byte_set + b / 8) (bit_or (get_or m (k * byte_set + b / 8) 0) v))
-unfolding held
-grown_range k b c v m h l hb g ev = record {
-  kept = record { size = simp length-set; outside = λ i z. get_or-set_other m (k * byte_set + b / 8) i _ 0 (λ e. omega arith) };
-  bits = λ q n hn. at q n hn (ℕ_discrete (q * byte_set + n / 8) (k * byte_set + b / 8));
-}
-  where
-    at : (q n : ℕ) → n < byte_values → Dec (q * byte_set + n / 8 ≡ k * byte_set + b / 8)
-        → has (get_or (set m (k * byte_set + b / 8) (bit_or (get_or m (k * byte_set + b / 8) 0) v)) (q * byte_set + n / 8) 0) (n % 8) ≡ (has (get_or m (q * byte_set + n / 8) 0) (n % 8) || (eqb q k && between b c n))
-    at q n hn (yes e) =
-        rw e (ap (λ (x : ℕ). has x (n % 8)) (get_or-set_same m (k * byte_set + b / 8) _ 0 (omega arith)) ∙ has_or (get_or m (k * byte_set + b / 8) 0) v (n % 8))
-        ∙ ap₂ (λ (x : ℕ) (y : Bool). has (get_or m x 0) (n % 8) || y) (sym e) (ev (n % 8) ∙ meets q k b c n hb hn g e)
-    at q n hn (no ne) = ap (λ (x : ℕ). has x (n % 8)) (get_or-set_other m (k * byte_set + b / 8) (q * byte_set + n / 8) _ 0 ne) ∙ sym (or-false _) ∙ ap (λ (y : Bool). has (get_or m (q * byte_set + n / 8) 0) (n % 8) || y) (sym (misses q k b c n g ne))
+  -- the bits of the bytes b to c, which lie in the byte i of a set, were stored
+  pub grown_range : (v : ℕ) (m : List ℕ) → k < position_limit → byte_sets ≤ length m → i < byte_set → ((n : ℕ) → has v n ≡ between (b % 8) (c % 8) n)
+      → SetGrown k (between b c) m (set m (k * byte_set + i) (bit_or (get_or m (k * byte_set + i) 0) v))
+  unfolding held
+  grown_range v m h l o ev = record {
+    kept = record { size = simp length-set; outside = λ j z. get_or-set_other m (k * byte_set + i) j _ 0 (λ e. omega arith) };
+    bits = λ q n hn. at q n hn (ℕ_discrete (q * byte_set + n / 8) (k * byte_set + i));
+  }
+    where
+      at : (q n : ℕ) → n < byte_values → Dec (q * byte_set + n / 8 ≡ k * byte_set + i)
+          → has (get_or (set m (k * byte_set + i) (bit_or (get_or m (k * byte_set + i) 0) v)) (q * byte_set + n / 8) 0) (n % 8) ≡ (has (get_or m (q * byte_set + n / 8) 0) (n % 8) || (eqb q k && between b c n))
+      at q n hn (yes y) =
+          rw y (ap (λ (x : ℕ). has x (n % 8)) (get_or-set_same m (k * byte_set + i) _ 0 (omega arith)) ∙ has_or (get_or m (k * byte_set + i) 0) v (n % 8))
+          ∙ ap₂ (λ (x : ℕ) (y : Bool). has (get_or m x 0) (n % 8) || y) (sym y) (ev (n % 8) ∙ meets q n o hn y)
+      at q n hn (no f) = ap (λ (x : ℕ). has x (n % 8)) (get_or-set_other m (k * byte_set + i) (q * byte_set + n / 8) _ 0 f) ∙ sym (or-false _) ∙ ap (λ (y : Bool). has (get_or m (q * byte_set + n / 8) 0) (n % 8) || y) (sym (misses q n f))
 
 -- ---- one after the other
 

@@ -1,7 +1,7 @@
 -- The atoms of one position: the first byte tells the dot, a class, an escape and a literal apart. One reading is every reading (`single-one`).
 --   dot_ranges: the dot's bytes are those before the line end and those after it
 --   single_dot, single_class, single_byte, single_literal: each was read
---   single_items, single_escape, literal_byte: what can be read of it
+--   single_items, single_escape: what can be read of it
 --   end_one, end_class, end_byte: where it ends, by one reading; a class; the dot or a literal
 use Prim.Native.Nat.{ℕ, ◌+◌, ◌<◌}
 use Prim.Native.Char.{code}
@@ -82,11 +82,6 @@ module _ {s : List ℕ} {i b : ℕ} (p : Some Single s i) (q : b ≡ byte s i) w
   pub single_literal : {k : ℕ} {m m' : List ℕ} → (b ≡ code "." → ⊥) → (b ≡ code "[" → ⊥) → (b ≡ code "\\" → ⊥) → SetGrown k (between b b) m m' → Took Single set_of s i k m m' (i + 1)
   unfolding set_of
   single_literal d c e m = let h = rw q at (literal_of p.reads d c e) in alone (a_literal h) (grown_as m (λ n h. between_one b n ∙ rw q refl))
-
-  -- a literal is a byte
-  pub literal_byte : (b ≡ code "." → ⊥) → (b ≡ code "[" → ⊥) → (b ≡ code "\\" → ⊥) → b ≡ byte_values → ⊥
-  unfolding literal
-  literal_byte d c e = other literal (literal_of p.reads d c e) refl
 
   -- ---- its end
 

@@ -1,12 +1,13 @@
 -- What can be read at a place of the text, and what a reader of it answers. The text is known to be a pattern, so a contract says that there is something to
 -- read, and then speaks of everything that could be read there.
 --   Some R s i: at the place i of s, which is not LONG, something can be read by the rule R
+--   byte_of o: a byte of code as the grammar has it: the end of the text is 256
 --   Backslash s i r: r is the byte after a backslash at i, 256 if there is none
 --   WholeItem, WholeItems: an item of a class that no dash goes on with; the items of a class up to its `]`
 --   UpTo R P s i r: r lies after i and not past the end of the text, and P holds of the end and the value of whatever is read by R at i
 --   EndsAt R s i r: whatever is read by R at i ends at r
 --   Took R set s i k m m' r: so it is, and its bytes are put into the set of the position that has k others before it
-use Rattle.std.specs.Prelude.{ℕ, ◌+◌, ◌<◌, ◌≤◌, ◌≡◌, List, length}
+use Rattle.std.specs.Prelude.{ℕ, ◌+◌, ◌<◌, ◌≤◌, ◌≡◌, List, length, Option, unwrap_or}
 use Prim.Native.Char.{code}
 use Rattle.scope.specs.Bytes.{ByteSet, byte}
 use Rattle.scope.specs.Text.Grammar.{OneItem, Items}
@@ -20,6 +21,9 @@ pub record Some {A : Type 0} (R : List ℕ → ℕ → ℕ → A → Type 0) (s 
   pub end : ℕ
   pub what : A
   pub reads : R s i end what
+
+abbrev pub byte_of : Option ℕ → ℕ
+byte_of o = unwrap_or o byte_values
 
 pub record Backslash (s : List ℕ) (i r : ℕ) : Type 0 where
   pub yes : byte s i ≡ code "\\" → r ≡ byte s (i + 1)

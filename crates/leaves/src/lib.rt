@@ -1,4 +1,5 @@
 // What stands at one position: a literal, a byte's escape, the dot or a class. Its bytes are put into its set, in a lent buffer; or its end alone is found.
+// The text and the place are two parameters, and so are the sets and the position: `SetGrown` says of all sets that the others are kept.
 #![tactic(auto)]
 
 mod byte_set;
@@ -13,7 +14,7 @@ ghost use Rattle.leaves.specs.GrownSets.{SetGrown};
 ghost use Rattle.leaves.specs.ReadAt.{Some, WholeItem, WholeItems, EndsAt, Took};
 
 use byte_set::insert;
-use text::{BACKSLASH, CLASS_CLOSE, CLASS_OPEN, DASH, DOT, byte_at, class_byte, escape};
+use text::{byte_at, class_byte, escape};
 
 // Puts in the bytes of the dot: all but the line end, 0x0A.
 fn insert_dot(bytes: &mut [u8], k: usize)
@@ -31,14 +32,13 @@ fn item(text: &[u8], at: usize, k: usize, bytes: &mut [u8]) -> usize
     ensures { Took WholeItem item_set text.now at k bytes.old bytes.new result }
 {
     let low = class_byte(text, at);
-    let next = low.next;
-    if byte_at(text, next) == DASH {
-        let high = class_byte(text, next + 1);
+    if byte_at(text, low.next) == Some(b'-') {
+        let high = class_byte(text, low.next + 1);
         insert(bytes, k, low.byte, high.byte);
         high.next
     } else {
         insert(bytes, k, low.byte, low.byte);
-        next
+        low.next
     }
 }
 
@@ -49,7 +49,7 @@ fn items(text: &[u8], at: usize, k: usize, bytes: &mut [u8]) -> usize
     ensures { Took WholeItems items_set text.now at k bytes.old bytes.new result }
 {
     let mut next = at;
-    while byte_at(text, next) != CLASS_CLOSE {
+    while text[next] != b']' {
         next = item(text, next, k, bytes);
     }
     next
@@ -61,39 +61,36 @@ pub fn single(text: &[u8], at: usize, k: usize, bytes: &mut [u8]) -> usize
     requires k_lt_position_limit { (k < position_limit) × (byte_sets ≤ length bytes.old) }
     ensures { Took Single set_of text.now at k bytes.old bytes.new result }
 {
-    let b = byte_at(text, at);
-    if b == DOT {
-        insert_dot(bytes, k);
-        return at + 1;
+    match text[at] {
+        b'.' => {
+            insert_dot(bytes, k);
+            at + 1
+        }
+        b'[' => items(text, at + 1, k, bytes) + 1,
+        b'\\' => {
+            let e = escape(text, at);
+            insert(bytes, k, e.byte, e.byte);
+            e.next
+        }
+        literal => {
+            insert(bytes, k, literal, literal);
+            at + 1
+        }
     }
-    if b == CLASS_OPEN {
-        return items(text, at + 1, k, bytes) + 1;
-    }
-    if b == BACKSLASH {
-        let e = escape(text, at);
-        insert(bytes, k, e.byte, e.byte);
-        return e.next;
-    }
-    let c = b as u8;
-    insert(bytes, k, c, c);
-    at + 1
 }
 
-// The place of the `]` after the items of a class: each byte is passed, with the one after it if it is a backslash.
+// The place of the `]` after the items of a class: each byte is passed, with the one after it if it is a backslash. The end needs no byte's value, so no item is read as in
+// `items`.
 fn class_end(text: &[u8], at: usize) -> usize
     requires { Some WholeItems text.now at }
     ensures { EndsAt WholeItems text.now at result }
 {
     let mut next = at;
     loop {
-        let b = byte_at(text, next);
-        if b == CLASS_CLOSE {
-            return next;
-        }
-        if b == BACKSLASH {
-            next += 2;
-        } else {
-            next += 1;
+        match text[next] {
+            b']' => return next,
+            b'\\' => next += 2,
+            _ => next += 1,
         }
     }
 }
@@ -103,12 +100,9 @@ pub fn single_end(text: &[u8], at: usize) -> usize
     requires { Some Single text.now at }
     ensures { EndsAt Single text.now at result }
 {
-    let b = byte_at(text, at);
-    if b == CLASS_OPEN {
-        return class_end(text, at + 1) + 1;
+    match text[at] {
+        b'[' => class_end(text, at + 1) + 1,
+        b'\\' => escape(text, at).next,
+        _ => at + 1,
     }
-    if b == BACKSLASH {
-        return escape(text, at).next;
-    }
-    at + 1
 }

@@ -1,6 +1,6 @@
 -- Numbers in decimal and words in hex, digit by digit. By induction on the bound of `digits`, and on the word.
---   decimal_few, decimal_more: a number of one digit, and of more
---   decimal_longer, decimal_short: how many digits it has; below 10 ^ (k + 1) at most k + 1
+--   decimal_few, decimal_one, decimal_more: a number of one digit, and of more
+--   decimal_longer, decimal_short, number_short: how many digits it has; below 10 ^ (k + 1) at most k + 1, of 64 bits 20
 --   hex_low, hex_high: a hex digit below ten, and the others
 --   hexes_join, hexes_length: the digits of a word are those of its parts, two a byte
 --   shown_none, shown_some: an empty word, and any other
@@ -44,6 +44,9 @@ pub decimal_few : (n : ℕ) → n < 10 → decimal n ≡ (48 + n) ∷ []
 unfolding decimal
 decimal_few n h = digits_few n n h
 
+pub decimal_one : (n : ℕ) → n < 10 → decimal n ≡ (48 + n % 10) ∷ []
+decimal_one n h = decimal_few n h ∙ ap (λ d. (48 + d) ∷ []) (omega arith)
+
 pub decimal_more : (n : ℕ) → 10 ≤ n → decimal n ≡ decimal (n / 10) ++ ((48 + n % 10) ∷ [])
 unfolding decimal
 decimal_more n h = digits_more n n h ∙ ap (λ l. l ++ ((48 + n % 10) ∷ [])) (digits_enough n (suc (n / 10)) (n / 10) (omega arith) (omega arith))
@@ -58,6 +61,10 @@ decimal_short (suc k) n h =
       | inl few ↦ omega (arith, ap length (decimal_few n few))
       | inr more ↦ omega (arith, decimal_longer n more, decimal_short k (n / 10) (omega (arith, pow-suc 10 (suc k))))
     ]
+
+-- a number of 64 bits
+pub number_short : (n : ℕ) → n < 2 ^ 64 → length (decimal n) ≤ 20
+number_short n h = decimal_short 19 n (omega arith)
 
 -- ---- hex
 

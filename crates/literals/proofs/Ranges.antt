@@ -1,16 +1,16 @@
--- Two tests, or two values, that are the same on a whole range of numbers, by computing.
+-- Two tests, or two values, that are the same on every byte, by computing.
 --   same_bytes: the tests f and g are the same on every byte
 --   twelve_is, escapable_is, bare_is: the code's tests
---   values: f and g have the same values from low on, below end
+--   digit_is: the value of a hex digit, by the library's, which goes up to 36
 use Prim.Native.Char.{code}
-use Prim.Native.Nat.{ℕ, ◌+◌, ◌-◌, ◌<◌, ◌≤◌}
+use Prim.Native.Nat.{ℕ, ◌<◌, min}
 use mathlib.Core.Path.{◌≡◌, refl}
 use mathlib.Core.Bool.{true, ◌||◌, beq}
-use native.Mathlib.Omega.{arith}
 use lib.Dec.{eqb}
+use Rattle.std.specs.Char.{digit_value}
 use Rattle.scope.specs.Limits.{byte_values}
 use Rattle.scope.specs.Bytes.{ByteSet, between}
-use Rattle.scope.specs.Text.Grammar.{twelve, escapable, class_literal}
+use Rattle.scope.specs.Text.Grammar.{twelve, escapable, class_literal, hex}
 use Rattle.scope.proofs.Counting.Tests.{all, all_is, same_bool, equals}
 
 same_bytes : (f g : ByteSet) → all (λ b. beq (f b) (g b)) byte_values ≡ true → (b : ℕ) → b < byte_values → f b ≡ g b
@@ -29,7 +29,6 @@ pub bare_is : (b : ℕ) → b < byte_values → ((between (code " ") (code ",") 
 unfolding class_literal
 bare_is = same_bytes _ class_literal refl
 
-pub values : (f g : ℕ → ℕ) (low end : ℕ) → all (λ i. eqb (g (low + i)) (f (low + i))) (end - low) ≡ true → (b : ℕ) → low ≤ b → b < end → f b ≡ g b
-values f g low end e b h k =
-    let d : low + (b - low) ≡ b = omega arith in
-    rw d at ((equals (g (low + (b - low))) (f (low + (b - low)))).sound ((all_is (λ i. eqb (g (low + i)) (f (low + i))) (end - low)).sound e (b - low) (omega arith)))
+pub digit_is : (b : ℕ) → b < byte_values → min (digit_value b) 16 ≡ hex b
+unfolding hex
+digit_is b h = (equals _ _).sound ((all_is (λ i. eqb (hex i) (min (digit_value i) 16)) byte_values).sound refl b h)

@@ -1,16 +1,9 @@
 // The sets of bytes that the pattern language names, and the value of a hex digit. A test has no branch.
 #![tactic(auto)]
 
-ghost use Rattle.std.specs.Prelude.{◌≡◌};
+ghost use Rattle.std.specs.Prelude.{◌≡◌, ◌<◌, SomeIff};
 ghost use Rattle.scope.specs.Bytes.{between};
 ghost use Rattle.scope.specs.Text.Grammar.{twelve, literal, escapable, class_literal, is_mark, hex};
-
-// The marks.
-pub const STAR: usize = b'*' as usize;
-
-pub const PLUS: usize = b'+' as usize;
-
-pub const OPTION: usize = b'?' as usize;
 
 // Whether b is one of low to high.
 fn is_in(b: u8, low: u8, high: u8) -> bool
@@ -47,21 +40,17 @@ pub fn is_bare(b: u8) -> bool
     is_in(b, b' ', b',') | is_in(b, b'.', b'Z') | is_in(b, b'_', b'~')
 }
 
-// Whether b is a mark: `*`, `+` or `?`. Readers ask it of 256 too, which stands for the end of a text.
+// Whether b is a mark: `*`, `+` or `?`.
 pub fn is_mark(b: usize) -> bool
     ensures { result ≡ is_mark b }
 {
-    (b == STAR) | (b == PLUS) | (b == OPTION)
+    (b == b'*' as usize) | (b == b'+' as usize) | (b == b'?' as usize)
 }
 
-// The value of a hex digit; 16 if b is none.
-pub fn hex_value(b: u8) -> u8
-    ensures { result ≡ hex b }
+// The value of a hex digit, if b is one.
+pub fn hex_value(b: u8) -> Option<u8>
+    ensures { SomeIff result (hex b < 16) (hex b) }
 {
-    match b {
-        b'0'..=b'9' => b - b'0',
-        b'A'..=b'F' => b - b'A' + 10,
-        b'a'..=b'f' => b - b'a' + 10,
-        _ => 16,
-    }
+    let digit = (b as char).to_digit(16)?;
+    Some(digit as u8)
 }

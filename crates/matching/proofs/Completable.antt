@@ -2,30 +2,28 @@
 -- to a live state, so does every prefix.
 --   byte_class: the class of a byte is one of the room's
 --   Stepped m cells k q b, stepped: the cell for a state and a byte, in the part of a room that begins at its first cell
---   LedTo M s i q: the first i bytes of s lead to the state q; at_start, at_more, at_end: none, one more, all
+--   LedTo M s i q: the first i bytes of s lead to the state q; at_more: one more
 --   accepting, not_accepting: what the mark of the last state says
 --   live_prefix, prefix_live: completable and live are the same
 --   alive: every prefix of a text that leads to a live state is completable
 --   live_judged: a state is live exactly if its way home is below 65,535
 --   died: a dead text has a sound room, and died at its place
---   inside: a prefix that leads to a live state is not the whole of a text that leads to a dead one
 use Prim.Native.Nat.{ℕ, ◌+◌, ◌*◌, ◌≤◌, ◌<◌}
-use mathlib.Core.Path.{◌≡◌, refl, sym, ap, ◌∙◌}
-use mathlib.Core.Logic.{inl, inr}
+use mathlib.Core.Path.{◌≡◌, sym, ap, ◌∙◌}
 use mathlib.Core.List.{List, [], ◌∷◌, ◌++◌, append_assoc}
 use native.Mathlib.Omega.{arith}
 use native.Mathlib.Numerals.{add-one}
 use borrow.Author.Tests.{ltb-false}
 use lib.Dec.{ltb}
 use lib.ListN.{length, get_or, take, drop, length-drop, take-append-drop}
-use lib.Seq.{take-suc, take_all, get_or-drop}
+use lib.Seq.{take-suc, get_or-drop}
 use Rattle.scope.specs.Limits.{byte_values, classes_at, cells_at, room_bytes, no_way}
 use Rattle.scope.specs.Machines.Machine.{Machine, run, Accepts, Closed, Completable}
 use Rattle.scope.specs.Machines.Ways.{Way, fewest, none}
 use Rattle.scope.specs.Machines.Room.{states_of, classes_of, class_of, mark_of, next_of, machine, SoundTable, Sound}
 use Rattle.scope.specs.Answers.{DEAD}
 use Rattle.scope.specs.Operations.Match.{DeadAt, Alive, Matches, dead}
-use Rattle.scope.proofs.Counting.Tests.{split, equals, below}
+use Rattle.scope.proofs.Counting.Tests.{equals, below}
 use Rattle.scope.proofs.Machines.Run.{run_append, bytes_append, bytes_known, sound_closed}
 use Rattle.buffers.specs.Stored.{Decides}
 use Rattle.room.proofs.HeadAndParts.{CellAt, cell_at}
@@ -40,10 +38,6 @@ pub record LedTo (M : Machine) (s : List ℕ) (i q : ℕ) : Type 0 where
   pub state : q < M.states
   pub leads : q ≡ run M 0 (take i s)
 
--- no byte
-pub at_start : {M : Machine} {s : List ℕ} → 0 < M.states → LedTo M s 0 0
-at_start h = record { within = omega arith; state = h; leads = refl }
-
 -- one byte more
 pub at_more : {M : Machine} {s : List ℕ} {i q r : ℕ} → LedTo M s i q → i < length s → (r ≡ M.next q (get_or s i 0)) × (r < M.states) → LedTo M s (i + 1) r
 at_more {M} {s} {i} a h x = record {
@@ -51,10 +45,6 @@ at_more {M} {s} {i} a h x = record {
   state = x.1;
   leads = rw (add-one i, take-suc s i 0 h, run_append M 0 (take i s) (get_or s i 0 ∷ []), ← a.leads) x.0;
 }
-
--- all of them
-pub at_end : {M : Machine} {s : List ℕ} {i q : ℕ} → LedTo M s i q → length s ≤ i → q ≡ run M 0 s
-at_end {s = s} {i = i} a h = rw (take_all i s h) at a.leads
 
 -- the mark of the last state is 1
 pub accepting : (m s : List ℕ) {q : ℕ} → q ≡ run (machine m) 0 s → mark_of m q ≡ 1 → Accepts (machine m) s
@@ -80,10 +70,6 @@ module _ (M : Machine) where
     bytes = bytes_append (drop j s) l.word (bytes_known (drop j s) (λ i. rw get_or-drop (f (j + i)))) l.home.bytes;
     accepted = rw (← append_assoc (take j s) (drop j s) l.word, take-append-drop j s, run_append M 0 s l.word) l.home.accepted;
   }
-
--- a prefix that leads to a live state is not the whole of a text that leads to a dead one
-pub inside : {M : Machine} {s : List ℕ} {i q : ℕ} → LedTo M s i q → (Live M (run M 0 s) → ⊥) → Live M q → i < length s
-inside {s = s} {i = i} a d l = elim (split i (length s)) [ inl x ↦ x | inr x ↦ absurd (d (rw (at_end a x) at l)) ]
 
 -- the class of a byte is one of the room's
 pub byte_class : {m : List ℕ} → SoundTable m → (b : ℕ) → b < byte_values → class_of m b < classes_of m

@@ -4,6 +4,8 @@
 ghost use Rattle.scope.specs.Operations.Pack.{Packs};
 ghost use Rattle.scope.specs.Operations.Unpack.{Unpacks};
 
+use answers::Numbered;
+
 // Packs, returns the number of the answer, and writes the length of the form.
 pub fn pack(
     room: &[u8],
@@ -15,7 +17,7 @@ pub fn pack(
     ensures { Packs room.now form.old form.new bytes.old bytes.new words.old words.new result length.new }
 {
     let packed = packing::pack(room, form, bytes, words);
-    *length = packed.length();
+    *length = packed.value();
     packed.number()
 }
 
@@ -23,6 +25,5 @@ pub fn pack(
 pub fn unpack(form: &[u8], room: &mut [u8], bytes: &mut [u8], words: &mut [u64]) -> u8
     ensures { Unpacks form.now room.old room.new bytes.old bytes.new words.old words.new result }
 {
-    let unpacked = packing::unpack(form, room, bytes, words);
-    unpacked.number()
+    packing::unpack(form, room, bytes, words).number()
 }

@@ -3,10 +3,10 @@
 
 ghost use Rattle.std.specs.Prelude.{◌≡◌, ◌*◌, ◌%◌, ◌^◌, ◌≤◌};
 ghost use Rattle.scope.specs.Limits.{state_limit, class_limit};
-ghost use Rattle.scope.specs.Machines.Room.{SoundTable};
 ghost use Rattle.scope.specs.Packing.PackedForm.{form_length};
 ghost use Rattle.packed_bits.specs.PackedFields.{bits_of};
 
+use room::Table;
 use scope::Machine;
 
 // The form: the number it begins with, the bits of each kind of field, and the bits where classes and marks begin.
@@ -32,27 +32,26 @@ pub fn low(x: usize, count: usize) -> usize
     x % (1 << count)
 }
 
-// How many cells n states and k classes use.
-pub fn used_cells(n: usize, k: usize) -> usize
-    requires { (n ≤ state_limit) × (k ≤ class_limit) }
-    ensures { (result ≡ n * k) × (result ≤ state_limit * class_limit) }
+// How many cells a machine uses.
+// The limits are no part of `Machine`: the head of a room that is not judged may name more.
+pub fn used_cells(machine: Machine) -> usize
+    requires { (machine.states ≤ state_limit) × (machine.classes ≤ class_limit) }
+    ensures { (result ≡ machine.states * machine.classes) × (result ≤ state_limit * class_limit) }
 {
-    n * k
+    machine.states * machine.classes
 }
 
-// How many bits the form of a room with n states and k classes has, before filling.
-pub fn form_bits(n: usize, k: usize) -> usize
-    requires { (n ≤ state_limit) × (k ≤ class_limit) }
-    ensures { (result ≡ bits_of n k) × (result ≤ bits_of state_limit class_limit) }
+// How many bits the form of a room with this head has, before filling.
+pub fn form_bits(machine: Machine) -> usize
+    requires { (machine.states ≤ state_limit) × (machine.classes ≤ class_limit) }
+    ensures { (result ≡ bits_of machine.states machine.classes) × (result ≤ bits_of state_limit class_limit) }
 {
-    MARKS_BIT + n * MARK_BITS + used_cells(n, k) * STATE_BITS
+    MARKS_BIT + machine.states * MARK_BITS + used_cells(machine) * STATE_BITS
 }
 
-// How many bytes the form of a sound room has.
-pub fn form_length(room: &[u8]) -> usize
-    requires { SoundTable room.now }
+// How many bytes the form of a room has.
+pub fn form_length(room: &Table) -> usize
     ensures { result ≡ form_length room.now }
 {
-    let machine = room::head(room);
-    (form_bits(machine.states, machine.classes) + 7) / 8
+    form_bits(room.head()).div_ceil(8)
 }

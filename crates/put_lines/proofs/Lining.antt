@@ -1,24 +1,31 @@
 -- The program's lines are the pieces that the code puts, one behind the other, and there is room for them. Joins are moved by `append_assoc`; the cases are tests on the answers' numbers.
---   side_line_lem, told_done, told_refused: a side's line, by the answer
+--   side_line_lem, told_done, told_refused: a side's line, by its number
+--   told_ok, told_err: the same by what compiling answered
 --   outcome_same, outcome_apart: the lines of the comparison, by the answer
 --   printed_left, printed_right, printed_both: what is printed if the left side is refused, if only the right one is, and else
 --   told_short, outcome_short: how many bytes these are at most
-use Prim.Native.Nat.{ℕ, ◌+◌, ◌*◌, ◌^◌, ◌≤◌, ◌<◌}
+use Prim.Native.Nat.{ℕ, ◌+◌, ◌^◌, ◌≤◌, ◌<◌}
 use Prim.Native.String.{String}
+use mathlib.Core.Logic.{◌⊎◌, inl, inr}
 use mathlib.Core.Path.{◌≡◌, refl, ap, ◌∙◌}
 use mathlib.Core.Bool.{Bool, true, false, cond}
 use mathlib.Core.List.{List, [], ◌∷◌, ◌++◌, append_assoc, append-nil}
 use native.Mathlib.Omega.{arith}
-use native.Mathlib.Decide.{ℕ_discrete}
 use lib.Dec.{eqb}
 use lib.ListN.{length, length-append}
 use borrow.Author.Tests.{eq-eqb, ne_eqb}
 use Rattle.scope.specs.Bytes.{ascii}
-use Rattle.scope.specs.Limits.{word_bytes}
-use Rattle.scope.specs.Answers.{DONE, SAME}
-use Rattle.scope.specs.Lines.{Side, Outcome, decimal, shown, side_line, outcome_lines, printed}
-use Rattle.put_lines.specs.Printing.{counted, told}
-use Rattle.line_pieces.proofs.Numerals.{decimal_short, shown_short}
+use Rattle.scope.specs.Answers.{DONE, SAME, SEPARATED, ROOM, FORM}
+use Rattle.scope.specs.Lines.{Side, Outcome, decimal, side_line, outcome_lines, printed}
+use Rattle.std.specs.Prelude.{Result, Ok, Err}
+use Rattle.std.specs.Result.{is_ok}
+use Rattle.scope.specs.declared.Machine.{Machine}
+use Rattle.answers.specs.declared.CompileRefusal.{CompileRefusal}
+use Rattle.answers.specs.declared.Refusal.{Refusal}
+use Rattle.answers.specs.declared.Compared.{Compared}
+use Rattle.answers.specs.Numbers.{compile_refusal_number, compile_refusal_place, compared_number, compared_rounds}
+use Rattle.put_lines.specs.Printing.{side_of, outcome, counted, told, same, separated}
+use Rattle.line_pieces.proofs.Numerals.{number_short}
 
 -- ---- by pieces
 
@@ -35,6 +42,16 @@ side_line_lem name a = ap (λ l. ascii name ++ l) (go (eqb a.number DONE))
     go true = counted_end (ascii " states ") a.states (ascii " classes ") a.classes
     go false = counted_end (ascii " refused ") a.number (ascii " at ") a.place
 
+pub refused_number : (e : CompileRefusal) → compile_refusal_number e ≡ DONE → ⊥
+refused_number CompileRefusal.Room h = omega arith
+refused_number CompileRefusal.Long h = omega arith
+refused_number (CompileRefusal.Syntax i) h = omega arith
+refused_number (CompileRefusal.Range i) h = omega arith
+refused_number (CompileRefusal.Depth i) h = omega arith
+refused_number (CompileRefusal.Positions i) h = omega arith
+refused_number CompileRefusal.Classes h = omega arith
+refused_number CompileRefusal.States h = omega arith
+
 pub told_done : (a : Side) → a.number ≡ DONE → told a ≡ counted (ascii " states ") a.states (ascii " classes ") a.classes
 unfolding told
 told_done a e = rw (eq-eqb a.number DONE e)
@@ -43,14 +60,31 @@ pub told_refused : (a : Side) → (a.number ≡ DONE → ⊥) → told a ≡ cou
 unfolding told
 told_refused a e = rw (ne_eqb a.number DONE e)
 
-pub outcome_same : (c : Outcome) → c.number ≡ SAME → outcome_lines c ≡ ascii "same rounds " ++ (decimal c.rounds ++ (0x0A ∷ []))
+pub told_ok : (m : Machine) → told (side_of (Ok m)) ≡ counted (ascii " states ") m.states (ascii " classes ") m.classes
+told_ok m = told_done (side_of (Ok m)) refl
+
+pub told_err : (e : CompileRefusal) → told (side_of (Err e)) ≡ counted (ascii " refused ") (compile_refusal_number e) (ascii " at ") (compile_refusal_place e)
+told_err e = told_refused (side_of (Err e)) (refused_number e)
+
+outcome_same : (c : Outcome) → c.number ≡ SAME → outcome_lines c ≡ same c.rounds
 unfolding outcome_lines
 outcome_same c e = rw (eq-eqb c.number SAME e)
 
-pub outcome_apart : (c : Outcome) → (c.number ≡ SAME → ⊥)
-    → outcome_lines c ≡ counted (ascii "separated length ") (length c.word) (ascii " rounds ") c.rounds ++ (ascii "word " ++ (shown c.word ++ (0x0A ∷ [])))
+outcome_apart : (c : Outcome) → (c.number ≡ SAME → ⊥) → outcome_lines c ≡ separated c.word c.rounds
 unfolding outcome_lines
 outcome_apart c e = rw (ne_eqb c.number SAME e) (simp append_assoc)
+
+-- the lines of what comparing answered
+abbrev pub compared_lines : Result Compared Refusal → List ℕ → List ℕ
+compared_lines (Ok (Compared.Same r)) w = same r
+compared_lines (Ok (Compared.Separated n r)) w = separated w r
+compared_lines (Err e) w = separated w 0
+
+pub outcome_of : (c : Result Compared Refusal) (w : List ℕ) → outcome_lines (outcome (compared_number c) (compared_rounds c) w) ≡ compared_lines c w
+outcome_of (Ok (Compared.Same r)) w = outcome_same (outcome SAME r w) refl
+outcome_of (Ok (Compared.Separated n r)) w = outcome_apart (outcome SEPARATED r w) (λ h. absurd (omega arith))
+outcome_of (Err Refusal.Room) w = outcome_apart (outcome ROOM 0 w) (λ h. absurd (omega arith))
+outcome_of (Err Refusal.Form) w = outcome_apart (outcome FORM 0 w) (λ h. absurd (omega arith))
 
 -- ---- which are printed
 
@@ -77,30 +111,25 @@ pub printed_both : (l r : Side) (c : Outcome) → l.number ≡ DONE → r.number
 unfolding behind
 printed_both l r c d e = printed_pieces l r c ∙ rw (eq-eqb l.number DONE d, eq-eqb r.number DONE e)
 
+-- the same by what compiling the sides answered
+ok_number : (s : Result Machine CompileRefusal) → is_ok s ≡ true → (side_of s).number ≡ DONE
+ok_number (Ok machine) h = refl
+ok_number (Err refusal) h = cc
+
+err_number : (s : Result Machine CompileRefusal) → is_ok s ≡ false → (side_of s).number ≡ DONE → ⊥
+err_number (Ok machine) h = cc
+err_number (Err refusal) h = refused_number refusal
+
+module _ (l r : Result Machine CompileRefusal) (c : Outcome) where
+  pub printed_ok : is_ok l ≡ true → is_ok r ≡ true → printed (side_of l) (side_of r) c ≡ ((ascii "left" ++ told (side_of l)) ++ (ascii "right" ++ told (side_of r))) ++ outcome_lines c
+  printed_ok d e = printed_both (side_of l) (side_of r) c (ok_number l d) (ok_number r e)
+
+  pub printed_err : (is_ok l ≡ false) ⊎ (is_ok l ≡ true) × (is_ok r ≡ false) → printed (side_of l) (side_of r) c ≡ (ascii "left" ++ told (side_of l)) ++ (ascii "right" ++ told (side_of r))
+  printed_err (inl d) = printed_left (side_of l) (side_of r) c (err_number l d)
+  printed_err (inr (d, e)) = printed_right (side_of l) (side_of r) c (ok_number l d) (err_number r e)
+
 -- ---- how many bytes
 
 -- a number of 64 bits has at most 20 digits
-counted_short : (u : List ℕ) (n : ℕ) (v : List ℕ) (m : ℕ) → n < 2 ^ 64 → m < 2 ^ 64 → length (counted u n v m) ≤ length u + length v + 41
-counted_short u n v m f g = simp length-append (omega (arith, decimal_short 19 n (omega arith), decimal_short 19 m (omega arith)))
-
-pub told_short : (a : Side) → a.number < 2 ^ 64 → a.place < 2 ^ 64 → a.states < 2 ^ 64 → a.classes < 2 ^ 64 → length (told a) ≤ 58
-told_short a n p s k =
-    elim (ℕ_discrete a.number DONE) [
-      | yes e ↦ omega (arith, ap length (told_done a e), counted_short (ascii " states ") a.states (ascii " classes ") a.classes s k)
-      | no e ↦ omega (arith, ap length (told_refused a e), counted_short (ascii " refused ") a.number (ascii " at ") a.place n p)
-    ]
-
-pub outcome_short : (c : Outcome) → c.rounds < 2 ^ 64 → length c.word ≤ word_bytes → length (outcome_lines c) ≤ word_bytes * 2 + 73
-outcome_short c r w =
-    elim (ℕ_discrete c.number SAME) [
-      | yes e ↦ omega (arith, simp length-append at (ap length (outcome_same c e)), decimal_short 19 c.rounds (omega arith))
-      | no e ↦
-          omega (
-            arith,
-            ap length (outcome_apart c e),
-            length-append (counted (ascii "separated length ") (length c.word) (ascii " rounds ") c.rounds) (ascii "word " ++ (shown c.word ++ (0x0A ∷ []))),
-            counted_short (ascii "separated length ") (length c.word) (ascii " rounds ") c.rounds (omega arith) r,
-            length-append (shown c.word) (0x0A ∷ []),
-            shown_short c.word,
-          )
-    ]
+pub counted_short : (u : List ℕ) (n : ℕ) (v : List ℕ) (m : ℕ) → n < 2 ^ 64 → m < 2 ^ 64 → length (counted u n v m) ≤ length u + length v + 41
+counted_short u n v m f g = simp length-append (omega (arith, number_short n f, number_short m g))

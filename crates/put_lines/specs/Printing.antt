@@ -3,15 +3,20 @@
 --   outcome: what comparing answered
 --   counted before n between m: a line with two numbers in it, from some place on
 --   told: a side's line behind its name
-use Rattle.std.specs.Prelude.{ℕ, cond, List, [], ◌∷◌, ◌++◌, eqb}
+--   same, separated: the lines of two machines that are the same, and of two that a string separates
+use Rattle.std.specs.Prelude.{ℕ, cond, List, [], ◌∷◌, ◌++◌, eqb, length, Result, Ok, Err}
 use Rattle.scope.specs.Bytes.{ascii}
 use Rattle.scope.specs.Answers.{DONE}
-use Rattle.scope.specs.Lines.{Outcome, decimal}
+use Rattle.scope.specs.Lines.{Outcome, decimal, shown}
 use Rattle.scope.specs.Lines as lines
-use Rattle.put_lines.specs.declared.Side.{Side}
+use Rattle.scope.specs.declared.Machine.{Machine}
+use Rattle.answers.specs.declared.CompileRefusal.{CompileRefusal}
+use Rattle.answers.specs.Numbers.{compile_refusal_number, compile_refusal_place}
 
-abbrev pub side_of : Side → lines.Side
-side_of a = record { number = a.number; place = a.place; states = a.states; classes = a.classes }
+-- the machine has a number and a place like every answer; a refused side has neither states nor classes
+abbrev pub side_of : Result Machine CompileRefusal → lines.Side
+side_of (Ok machine) = record { number = DONE; place = 0; states = machine.states; classes = machine.classes }
+side_of (Err refusal) = record { number = compile_refusal_number refusal; place = compile_refusal_place refusal; states = 0; classes = 0 }
 
 abbrev pub outcome : ℕ → ℕ → List ℕ → Outcome
 outcome number rounds word = record { number = number; rounds = rounds; word = word }
@@ -23,3 +28,11 @@ counted before n between m = before ++ (decimal n ++ (between ++ (decimal m ++ (
 -- "left states 3 classes 3", "left refused 3 at 2": what follows "left"
 unfoldable pub told : lines.Side → List ℕ
 told a = cond (eqb a.number DONE) (counted (ascii " states ") a.states (ascii " classes ") a.classes) (counted (ascii " refused ") a.number (ascii " at ") a.place)
+
+-- "same rounds 3"
+abbrev pub same : ℕ → List ℕ
+same rounds = ascii "same rounds " ++ (decimal rounds ++ (0x0A ∷ []))
+
+-- "separated length 2 rounds 2", "word 6261"
+abbrev pub separated : List ℕ → ℕ → List ℕ
+separated word rounds = counted (ascii "separated length ") (length word) (ascii " rounds ") rounds ++ (ascii "word " ++ (shown word ++ (0x0A ∷ [])))

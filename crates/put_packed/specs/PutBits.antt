@@ -1,57 +1,52 @@
--- A form on its way out: the bits that do not yet fill a byte are held, and the whole bytes before them are in `out`.
+-- A form on its way out: the bits that do not yet fill a byte are held, and the whole bytes before them are in the buffer.
 --   bits_byte b i: the byte i of the bits b
---   FormFits m out: the form of the sound room m has room in `out`
 --   place s: how many bits are out or held
---   BitsOut b old out p s: the bits of b before p are out or held, and the rest of `out` is as it was in `old`
---   HasRoom out s w: nothing held is lost, and `out` has room for w bits more
---   PutsField w x, PutsBits b n: a field of w bits with the value x is put, whatever the bits are; n bits of b are put
---   Due b out s w m start n: what is to be put next are n fields of w bits, for the bytes of m from `start` on
---   AllOut out s out' n: where all bits that are left are zero, the n bytes of the form are out
-use Rattle.std.specs.Prelude.{ℕ, ◌+◌, ◌*◌, ◌/◌, ◌^◌, ◌≤◌, ◌<◌, ◌≡◌, List, length}
-use Rattle.scope.specs.Machines.Room.{SoundTable}
-use Rattle.scope.specs.Packing.PackedForm.{value, form_length}
+--   BitsOut b old p s: the bits of b before p are out or held, and the rest of the buffer is as it was in `old`
+--   HasRoom s w: the buffer has room for w bits more
+--   BitsMore n s t: n bits more are put, in the same buffer
+--   PutsField w x s t: a field of w bits with the value x is put, whatever the bits are
+--   PutsFields w xs n s t: a field of w bits is put for each of the first n of xs
+--   PutsUpTo b p q s t: the bits of b from p up to q are put
+--   AllOut s t n: where all bits that are left are zero, the n bytes of the form are out
+use Rattle.std.specs.Prelude.{ℕ, ◌+◌, ◌-◌, ◌*◌, ◌/◌, ◌≤◌, ◌<◌, ◌≡◌, List, length}
+use Rattle.scope.specs.Packing.PackedForm.{value}
 use Rattle.scope.specs.Operations.Buffers.{Written}
 use Rattle.scope.specs.Packing.Laid.{from, Holds}
-use Rattle.packed_bits.specs.PackedFields.{Ahead}
-use Rattle.put_packed.specs.declared.Filling.{Filling}
+use Rattle.packed_bits.specs.PackedFields.{FieldsFrom}
+use Rattle.put_packed.specs.declared.bits.Bits.{Bits}
 
 abbrev pub bits_byte : (ℕ → ℕ) → ℕ → ℕ
 bits_byte b i = value 8 (from b (i * 8))
 
-pub record FormFits (m out : List ℕ) : Type 0 where
-  pub sound : SoundTable m
-  pub room : form_length m ≤ length out
-
-abbrev pub place : Filling → ℕ
+abbrev pub place : Bits → ℕ
 place s = s.at * 8 + s.count
 
-pub record BitsOut (b : ℕ → ℕ) (old out : List ℕ) (p : ℕ) (s : Filling) : Type 0 where
+pub record BitsOut (b : ℕ → ℕ) (old : List ℕ) (p : ℕ) (s : Bits) : Type 0 where
   pub bit : (j : ℕ) → b j < 2
-  pub few : s.count < 8
   pub here : place s ≡ p
   pub last : Holds b (s.at * 8) s.count s.held
-  pub done : Written s.at (bits_byte b) old out
+  pub done : Written s.at (bits_byte b) old s.out.now
 
-pub record HasRoom (out : List ℕ) (s : Filling) (w : ℕ) : Type 0 where
-  pub few : s.count < 8
-  pub small : s.held < 2 ^ s.count
-  pub room : place s + w ≤ 8 * length out
+abbrev pub HasRoom : Bits → ℕ → Type 0
+HasRoom s w = place s + w ≤ 8 * length s.out.now
 
-abbrev pub PutsField : ℕ → ℕ → List ℕ → Filling → List ℕ → Filling → Type 0
-PutsField w x out s out' s' = (b : ℕ → ℕ) (old : List ℕ) (p : ℕ) → BitsOut b old out p s → Holds b p w x → BitsOut b old out' (p + w) s'
+pub record BitsMore (n : ℕ) (s t : Bits) : Type 0 where
+  pub same_buffer : t.out.ghost_name ≡ s.out.ghost_name
+  pub size : length t.out.now ≡ length s.out.now
+  pub place : place t ≡ place s + n
 
-abbrev pub PutsBits : (ℕ → ℕ) → ℕ → List ℕ → Filling → List ℕ → Filling → Type 0
-PutsBits b n out s out' s' = (old : List ℕ) (p : ℕ) → BitsOut b old out p s → BitsOut b old out' (p + n) s'
+pub record PutsField (w x : ℕ) (s t : Bits) : Type 0 where
+  pub put : BitsMore w s t
+  pub bits : (b : ℕ → ℕ) (old : List ℕ) (p : ℕ) → BitsOut b old p s → Holds b p w x → BitsOut b old (p + w) t
 
-pub record Due (b : ℕ → ℕ) (out : List ℕ) (s : Filling) (w : ℕ) (m : List ℕ) (start n : ℕ) : Type 0 where
-  pub p : ℕ
-  pub filled : BitsOut b out out p s
-  pub ahead : Ahead b p w m start n
-  pub narrow : w ≤ 8
-  pub inside : start + n ≤ length m
-  pub room : p + n * w ≤ 8 * length out
+pub record PutsFields (w : ℕ) (xs : List ℕ) (n : ℕ) (s t : Bits) : Type 0 where
+  pub put : BitsMore (n * w) s t
+  pub bits : (b : ℕ → ℕ) (old : List ℕ) (p : ℕ) → BitsOut b old p s → FieldsFrom b p w xs n → BitsOut b old (p + n * w) t
 
-abbrev pub AllOut : List ℕ → Filling → List ℕ → ℕ → Type 0
-AllOut out s out' n =
-    (b : ℕ → ℕ) (old : List ℕ) (p : ℕ) → BitsOut b old out p s → ((j : ℕ) → p ≤ j → b j ≡ 0)
-    → (n ≡ (p + 7) / 8) × Written n (bits_byte b) old out'
+pub record PutsUpTo (b : ℕ → ℕ) (p q : ℕ) (s t : Bits) : Type 0 where
+  pub put : BitsMore (q - p) s t
+  pub bits : (old : List ℕ) → BitsOut b old p s → BitsOut b old q t
+
+pub record AllOut (s t : Bits) (n : ℕ) : Type 0 where
+  pub same_buffer : t.out.ghost_name ≡ s.out.ghost_name
+  pub bits : (b : ℕ → ℕ) (old : List ℕ) (p : ℕ) → BitsOut b old p s → ((j : ℕ) → p ≤ j → b j ≡ 0) → (n ≡ (p + 7) / 8) × Written n (bits_byte b) old t.out.now

@@ -14,6 +14,7 @@ use borrow.Author.Count.{below_more}
 use lib.Bits.{bit_and}
 use lib.ListN.{length, set}
 use lib.Seq.{get_or-set_same, get_or-set_other}
+use Rattle.std.specs.Prelude.{Option, Some, None}
 use Rattle.scope.specs.Limits.{class_limit, state_limit, cells_at, ways_at, set_words}
 use Rattle.scope.specs.Text.Re.{Re}
 use Rattle.scope.specs.Positions.Bits.{move}
@@ -22,11 +23,10 @@ use Rattle.scope.proofs.Positions.Reached.{reached_next}
 use Rattle.scope.proofs.Machines.Room.{flat_in}
 use Rattle.buffers.proofs.Numbered.{numbered_old, numbered_new}
 use Rattle.sets.specs.Value.{set_at}
-use Rattle.byte_classes.specs.declared.Counted.TheVariants.{Few, Many}
 use Rattle.byte_classes.proofs.NumbersMet.{over_one}
 use Rattle.sets.specs.Layout.{sets_at}
 use Rattle.seats.specs.SeatLayout.{reached_set, KeptOutside}
-use Rattle.seats.specs.Seats.{Seated}
+use Rattle.seats.specs.Seats.{Sat, Full, Seated}
 use Rattle.reach.specs.Reach.{follows, MasksOf, cell_at, target, ReachedRows, RowFits, RowStart, RowAnswer}
 use Rattle.seats.proofs.Kept.{kept_none, kept_wide, kept_join, kept_set, kept_sets}
 
@@ -112,9 +112,9 @@ filling_none o w m k q n u h = record {
   rows = λ e r. rw (add-zero (q * k)) r.rows;
 }
 
--- w₂: the words with the set s seated as number r, what the union and the mask x of the class c have in common
-module _ {o w m : List ℕ} {k q n u : ℕ} {o₁ w₁ : List ℕ} {n₁ c : ℕ} {w₂ : List ℕ} {s r x : ℕ} (t : RowFits o w m k q n)
-    (f : Filling o w m k q n u o₁ w₁ n₁ c) (hc : c < k) (z : Seated w₁ w₂ n₁ s r) (es : s ≡ bit_and u x) (ex : x ≡ set_at m c) where
+-- w₂: the words with the set s seated, which is what the union and the mask x of the class c have in common
+module _ {o w m : List ℕ} {k q n u : ℕ} {o₁ w₁ : List ℕ} {n₁ c : ℕ} {w₂ : List ℕ} {s x : ℕ} {a : Option ℕ} (t : RowFits o w m k q n)
+    (f : Filling o w m k q n u o₁ w₁ n₁ c) (hc : c < k) (z : Seated w₁ w₂ n₁ s a) (es : s ≡ bit_and u x) (ex : x ≡ set_at m c) where
   kept : (i : ℕ) → i < n₁ → reached_set w₂ i ≡ reached_set w₁ i
   kept i h = kept_sets z.kept (sets_at + i) (omega arith)
 
@@ -129,18 +129,15 @@ module _ {o w m : List ℕ} {k q n u : ℕ} {o₁ w₁ : List ℕ} {n₁ c : ℕ
     reach = rw leads (reach_common e k (set_at m) (reached_set w₁) (cell_at o₁) n₁ (q * k + c) q c row.masks (f.rows e row) (omega (arith, t.row, f.more)) hc)
 
   -- a set too many
-  pub filling_full : r ≡ state_limit → RowAnswer o w m k q n u o₁ w₂ Many
-  filling_full y = record {
+  pub filling_full : Full w₁ n₁ s → RowAnswer o w m k q n u o₁ w₂ None
+  filling_full full = record {
     image = f.image;
     words = words;
-    rows = λ e row. (let l : n₁ ≡ state_limit = omega (arith, z.most, f.few) in
-        sets_many e k (set_at m) (reached_set w₁) (cell_at o₁) n₁ (q * k + c) s l (f.rows e row) (reach e row) (z.new (y ∙ sym l)));
+    rows = λ e row. sets_many e k (set_at m) (reached_set w₁) (cell_at o₁) n₁ (q * k + c) s full.full (f.rows e row) (reach e row) full.new;
   }
 
-  module _ (ne : r ≡ state_limit → ⊥) where
-    small : r < state_limit
-    small = omega (arith, z.most, f.few)
-
+  -- r: its seat
+  module _ {r : ℕ} (seat : Sat w₁ w₂ n₁ s r) where
     fits : cells_at + (q * k + c) < length o₁
     fits = omega (arith, row_fits k q t.classes (omega (arith, t.row, t.states)), f.image.size, t.image)
 
@@ -169,19 +166,19 @@ module _ {o w m : List ℕ} {k q n u : ℕ} {o₁ w₁ : List ℕ} {n₁ c : ℕ
     pub filling_old : (r ≡ n₁ → ⊥) → Filling o w m k q n u (set o₁ (cells_at + q * k + c) r) w₂ n₁ (c + 1)
     filling_old y = filling n₁ (omega arith) f.few
         (λ e row. rows_old e k (set_at m) (reached_set w₁) (cell_at o₁) (reached_set w₂) (cell_at (set o₁ (cells_at + q * k + c) r)) n₁ q c (f.rows e row) (omega (arith, t.row, f.more)) hc
-        kept before (omega (arith, here, z.most)) (ap (reached_set w₂) here ∙ z.here small ∙ to_it e row))
+        kept before (omega (arith, here, seat.most)) (ap (reached_set w₂) here ∙ seat.here ∙ to_it e row))
 
     -- the set is new
     pub filling_new : r ≡ n₁ → Filling o w m k q n u (set o₁ (cells_at + q * k + c) r) w₂ (n₁ + 1) (c + 1)
     filling_new y =
-        let new : reached_set w₂ n₁ ≡ s = rw (← y) (z.here small) in
-        filling (n₁ + 1) (omega arith) (omega (arith, small))
+        let new : reached_set w₂ n₁ ≡ s = rw (← y) seat.here in
+        filling (n₁ + 1) (omega arith) (omega (arith, seat.inside))
         (λ e row. rows_new e k (set_at m) (reached_set w₁) (cell_at o₁) (reached_set w₂) (cell_at (set o₁ (cells_at + q * k + c) r)) n₁ q c (f.rows e row) (omega (arith, t.row, f.more)) hc
-        kept before (omega (arith, small)) (here ∙ y) (new ∙ to_it e row) (rw new (reach e row)) (λ j l v. z.new y j l (v ∙ new)))
+        kept before (omega (arith, seat.inside)) (here ∙ y) (new ∙ to_it e row) (rw new (reach e row)) (λ j l v. seat.new y j l (v ∙ new)))
 
 -- the row is full
 pub filling_end : {o w m : List ℕ} {k q n u : ℕ} {o₁ w₁ : List ℕ} {n₁ c : ℕ}
-    → Filling o w m k q n u o₁ w₁ n₁ c → k ≤ c → RowAnswer o w m k q n u o₁ w₁ (Few n₁)
+    → Filling o w m k q n u o₁ w₁ n₁ c → k ≤ c → RowAnswer o w m k q n u o₁ w₁ (Some n₁)
 filling_end {k = k} {c = c} f h =
     let y : c ≡ k = omega (arith, f.within) in
     record { image = f.image; words = f.words; rows = (f.more, f.few, λ e row. rw y at (f.rows e row)) }

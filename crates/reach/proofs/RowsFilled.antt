@@ -2,15 +2,16 @@
 -- has positions of the expression alone.
 --   union_of: the union of the follow sets in the words is that of the expression
 --   RowsFilled: the loop over the rows
---   filled_none, filled_next, filled_many, filled_end, filled_few: its turns, and what they answer
+--   filled_none, filled_next, filled_many, filled_end: its turns, and what they answer
 use Prim.Native.Nat.{ℕ, ◌+◌, ◌-◌, ◌*◌, ◌≤◌, ◌<◌}
-use mathlib.Core.Path.{◌≡◌, sym, ap, subst, ◌∙◌}
+use mathlib.Core.Path.{◌≡◌, sym, ap, ◌∙◌}
 use mathlib.Core.Bool.{true, false}
 use mathlib.Core.List.{List, [], ◌∷◌}
 use mathlib.Core.Logic.{◌⊎◌, inl, inr}
 use native.Mathlib.Nat.{suc-mul, zero-mul, mul-le-mul}
 use native.Mathlib.Numerals.{add-one}
 use native.Mathlib.Omega.{arith}
+use Rattle.std.specs.Prelude.{Option, Some, None}
 use Rattle.scope.specs.Limits.{state_limit, position_limit, cells_at, ways_at, set_words}
 use Rattle.scope.specs.Text.Re.{Re, size}
 use Rattle.scope.specs.Positions.Bits.{has, given, joined, after_position, move}
@@ -23,12 +24,10 @@ use Rattle.scope.proofs.Positions.Reached.{reached_start}
 use Rattle.scope.proofs.Counting.Tests.{which, equals}
 use Rattle.buffers.proofs.Numbered.{numbered_none}
 use Rattle.sets.specs.Value.{set_bits, set_at}
-use Rattle.byte_classes.specs.declared.Counted.{Counted}
-use Rattle.byte_classes.specs.declared.Counted.TheVariants.{Few, Many}
 use Rattle.byte_classes.proofs.Unions.{joined_skip, joined_same}
 use Rattle.sets.specs.Layout.{sets_at}
 use Rattle.seats.specs.SeatLayout.{reached_set, KeptOutside}
-use Rattle.reach.specs.Reach.{follow_of, follows, cell_at, ReachedRows, RowFits, RowStart, RowCase, RowAnswer, SetsOf, RowsCase, RowsAnswer}
+use Rattle.reach.specs.Reach.{follow_of, follows, cell_at, ReachedRows, RowFits, RowStart, RowAnswer, SetsOf, RowsAnswer}
 use Rattle.seats.proofs.Kept.{kept_none, kept_wide, kept_join, kept_sets}
 use Rattle.reach.proofs.Cells.{row_fits}
 
@@ -84,8 +83,8 @@ filled_none o w m k h = record {
 }
 
 -- the row q is filled from the union u of the follow sets of its set s
-module _ {o w m : List ℕ} {k : ℕ} {o₁ w₁ : List ℕ} {n q u s : ℕ} {o₂ w₂ : List ℕ} {r : Counted} (t : RowFits o w m k 0 1) (f : RowsFilled o w m k o₁ w₁ n q)
-    (hq : q < n) (es : s ≡ reached_set w₁ q) (eu : u ≡ joined (follow_of w₁ s) set_bits) (a : RowAnswer o₁ w₁ m k q n u o₂ w₂ r) where
+module _ {o w m : List ℕ} {k : ℕ} {o₁ w₁ : List ℕ} {n q u s : ℕ} (t : RowFits o w m k 0 1) (f : RowsFilled o w m k o₁ w₁ n q)
+    (hq : q < n) (es : s ≡ reached_set w₁ q) (eu : u ≡ joined (follow_of w₁ s) set_bits) where
   -- what the row is given, of an expression that the buffers hold
   row_given : (e : Re) → SetsOf e w m k → RowStart e o₁ w₁ m k q n u
   row_given e x = record {
@@ -95,35 +94,35 @@ module _ {o w m : List ℕ} {k : ℕ} {o₁ w₁ : List ℕ} {n q u s : ℕ} {o�
     rows = f.rows e x;
   }
 
-  words_kept : KeptOutside w w₂ ((sets_at + 1) * set_words) ((sets_at + state_limit) * set_words)
-  words_kept = kept_join f.words (kept_wide a.words _ _ (omega arith) (omega arith))
+  module _ {o₂ w₂ : List ℕ} {r : Option ℕ} (a : RowAnswer o₁ w₁ m k q n u o₂ w₂ r) where
+    words_kept : KeptOutside w w₂ ((sets_at + 1) * set_words) ((sets_at + state_limit) * set_words)
+    words_kept = kept_join f.words (kept_wide a.words _ _ (omega arith) (omega arith))
 
-  image_kept : (to : ℕ) → cells_at + q * k + k ≤ to → KeptOutside o o₂ cells_at to
-  image_kept to h = kept_join (kept_wide f.image _ to (omega arith) (omega arith)) (kept_wide a.image _ to (omega arith) h)
+    image_kept : (to : ℕ) → cells_at + q * k + k ≤ to → KeptOutside o o₂ cells_at to
+    image_kept to h = kept_join (kept_wide f.image _ to (omega arith) (omega arith)) (kept_wide a.image _ to (omega arith) h)
 
   -- a row more
-  pub filled_next : (n₂ : ℕ) → r ≡ Few n₂ → RowsFilled o w m k o₂ w₂ n₂ (q + 1)
-  filled_next n₂ y =
+  pub filled_next : {o₂ w₂ : List ℕ} {n₂ : ℕ} → RowAnswer o₁ w₁ m k q n u o₂ w₂ (Some n₂) → RowsFilled o w m k o₂ w₂ n₂ (q + 1)
+  filled_next a =
       let l : q * k + k ≡ (q + 1) * k = rw (add-one q) (sym (suc-mul q k)) in
-      let x = subst (RowCase o₁ w₁ m k q n u o₂ w₂) y a.rows in
       record {
-        row = omega (arith, x.0);
-        few = x.1;
-        image = image_kept _ (omega arith);
-        words = words_kept;
-        rows = λ e v. rw l at (x.2 e (row_given e v));
+        row = omega (arith, a.rows.0);
+        few = a.rows.1;
+        image = image_kept a _ (omega arith);
+        words = words_kept a;
+        rows = λ e v. rw l at (a.rows.2 e (row_given e v));
       }
 
   -- too many sets
-  pub filled_many : r ≡ Many → RowsAnswer o w m k o₂ w₂ Many
-  filled_many y = record {
-    image = image_kept ways_at (row_fits k q t.classes (omega (arith, f.few)));
-    words = words_kept;
-    rows = λ e v. subst (RowCase o₁ w₁ m k q n u o₂ w₂) y a.rows e (row_given e v);
+  pub filled_many : {o₂ w₂ : List ℕ} → RowAnswer o₁ w₁ m k q n u o₂ w₂ None → RowsAnswer o w m k o₂ w₂ None
+  filled_many a = record {
+    image = image_kept a ways_at (row_fits k q t.classes (omega (arith, f.few)));
+    words = words_kept a;
+    rows = λ e v. a.rows e (row_given e v);
   }
 
 -- no row is left
-pub filled_end : {o w m : List ℕ} {k : ℕ} {o₁ w₁ : List ℕ} {n q : ℕ} → RowFits o w m k 0 1 → RowsFilled o w m k o₁ w₁ n q → n ≤ q → RowsAnswer o w m k o₁ w₁ (Few n)
+pub filled_end : {o w m : List ℕ} {k : ℕ} {o₁ w₁ : List ℕ} {n q : ℕ} → RowFits o w m k 0 1 → RowsFilled o w m k o₁ w₁ n q → n ≤ q → RowsAnswer o w m k o₁ w₁ (Some n)
 filled_end {k = k} {n = n} {q = q} t f h =
     let y : q ≡ n = omega (arith, f.row) in
     let l : q ≤ state_limit = omega (arith, f.few) in
@@ -132,7 +131,3 @@ filled_end {k = k} {n = n} {q = q} t f h =
       words = f.words;
       rows = (f.few, rw y at f.image, λ e x. rw y at (f.rows e x));
     }
-
--- few sets are at most as many as there may be
-pub filled_few : {o w m : List ℕ} {k : ℕ} {o₁ w₁ : List ℕ} {r : Counted} {n : ℕ} → RowsAnswer o w m k o₁ w₁ r → r ≡ Few n → n ≤ state_limit
-filled_few {o} {w} {m} {k} {o₁} {w₁} a y = (subst (RowsCase o w m k o₁ w₁) y a.rows).0

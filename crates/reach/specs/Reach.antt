@@ -12,7 +12,7 @@
 --   RowStart e o w m k q n u: the sets and cells before the row q, and the union for it
 --   SetsOf e w m k: the words hold the follow sets of e, and m the masks of its classes
 --   RowAnswer, RowsAnswer: what one row, and all rows, answer
-use Rattle.std.specs.Prelude.{ℕ, ◌+◌, ◌*◌, ◌/◌, ◌%◌, ◌<◌, ◌≤◌, ◌≡◌, List, length, get_or}
+use Rattle.std.specs.Prelude.{ℕ, ◌+◌, ◌*◌, ◌/◌, ◌%◌, ◌<◌, ◌≤◌, ◌≡◌, Option, Some, None, List, length, get_or}
 use Rattle.std.specs.Int.Bits.{bit_and}
 use Rattle.scope.specs.Limits.{byte_values, class_limit, state_limit, position_limit, cells_at, ways_at, room_bytes, set_words}
 use Rattle.scope.specs.Text.Re.{Re, size}
@@ -20,8 +20,6 @@ use Rattle.scope.specs.Positions.Bits.{has, given, joined, holders, after_positi
 use Rattle.scope.specs.Positions.Reached.{ReachedSet, ManySets}
 use Rattle.buffers.specs.Numbered.{Numbered}
 use Rattle.sets.specs.Value.{set_at}
-use Rattle.byte_classes.specs.declared.Counted.{Counted}
-use Rattle.byte_classes.specs.declared.Counted.TheVariants.{Few, Many}
 use Rattle.sets.specs.Layout.{sets_at}
 use Rattle.seats.specs.SeatLayout.{reached_set, KeptOutside}
 use Rattle.seats.specs.Seats.{guess_count, Guesses}
@@ -56,9 +54,9 @@ pub record ReachedRows (e : Re) (k : ℕ) (mask set cell : ℕ → ℕ) (n fille
   pub within : filled ≤ n * k
   pub numbered : Numbered SameSet (target e k mask set) cell set 1 n filled
 
-abbrev pub GuessesFor : List ℕ → List ℕ → Counted → Type 0
-GuessesFor w g (Few n) = Guesses w g n
-GuessesFor w g Many = length g ≡ guess_count
+abbrev pub GuessesFor : List ℕ → List (Option ℕ) → Option ℕ → Type 0
+GuessesFor w g (Some n) = Guesses w g n
+GuessesFor w g None = length g ≡ guess_count
 
 pub record RowFits (o w m : List ℕ) (k q n : ℕ) : Type 0 where
   pub image : room_bytes ≤ length o
@@ -74,11 +72,11 @@ pub record RowStart (e : Re) (o w m : List ℕ) (k q n u : ℕ) : Type 0 where
   pub rows : ReachedRows e k (set_at m) (reached_set w) (cell_at o) n (q * k)
 
 -- the sets and cells with those of the row, or too many sets
-abbrev pub RowCase : List ℕ → List ℕ → List ℕ → ℕ → ℕ → ℕ → ℕ → List ℕ → List ℕ → Counted → Type 0
-RowCase o w m k q n u o' w' (Few n') = (n ≤ n') × (n' ≤ state_limit) × ((e : Re) → RowStart e o w m k q n u → ReachedRows e k (set_at m) (reached_set w') (cell_at o') n' (q * k + k))
-RowCase o w m k q n u o' w' Many = (e : Re) → RowStart e o w m k q n u → ManySets e
+abbrev pub RowCase : List ℕ → List ℕ → List ℕ → ℕ → ℕ → ℕ → ℕ → List ℕ → List ℕ → Option ℕ → Type 0
+RowCase o w m k q n u o' w' (Some n') = (n ≤ n') × (n' ≤ state_limit) × ((e : Re) → RowStart e o w m k q n u → ReachedRows e k (set_at m) (reached_set w') (cell_at o') n' (q * k + k))
+RowCase o w m k q n u o' w' None = (e : Re) → RowStart e o w m k q n u → ManySets e
 
-pub record RowAnswer (o w m : List ℕ) (k q n u : ℕ) (o' w' : List ℕ) (r : Counted) : Type 0 where
+pub record RowAnswer (o w m : List ℕ) (k q n u : ℕ) (o' w' : List ℕ) (r : Option ℕ) : Type 0 where
   pub image : KeptOutside o o' (cells_at + q * k) (cells_at + q * k + k)
   pub words : KeptOutside w w' ((sets_at + n) * set_words) ((sets_at + state_limit) * set_words)
   pub rows : RowCase o w m k q n u o' w' r
@@ -90,11 +88,11 @@ pub record SetsOf (e : Re) (w m : List ℕ) (k : ℕ) : Type 0 where
   pub masks : MasksOf e k (set_at m)
 
 -- all sets and cells, or too many sets
-abbrev pub RowsCase : List ℕ → List ℕ → List ℕ → ℕ → List ℕ → List ℕ → Counted → Type 0
-RowsCase o w m k o' w' (Few n) = (n ≤ state_limit) × KeptOutside o o' cells_at (cells_at + n * k) × ((e : Re) → SetsOf e w m k → ReachedRows e k (set_at m) (reached_set w') (cell_at o') n (n * k))
-RowsCase o w m k o' w' Many = (e : Re) → SetsOf e w m k → ManySets e
+abbrev pub RowsCase : List ℕ → List ℕ → List ℕ → ℕ → List ℕ → List ℕ → Option ℕ → Type 0
+RowsCase o w m k o' w' (Some n) = (n ≤ state_limit) × KeptOutside o o' cells_at (cells_at + n * k) × ((e : Re) → SetsOf e w m k → ReachedRows e k (set_at m) (reached_set w') (cell_at o') n (n * k))
+RowsCase o w m k o' w' None = (e : Re) → SetsOf e w m k → ManySets e
 
-pub record RowsAnswer (o w m : List ℕ) (k : ℕ) (o' w' : List ℕ) (r : Counted) : Type 0 where
+pub record RowsAnswer (o w m : List ℕ) (k : ℕ) (o' w' : List ℕ) (r : Option ℕ) : Type 0 where
   pub image : KeptOutside o o' cells_at ways_at
   pub words : KeptOutside w w' ((sets_at + 1) * set_words) ((sets_at + state_limit) * set_words)
   pub rows : RowsCase o w m k o' w' r

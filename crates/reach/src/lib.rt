@@ -10,9 +10,8 @@ ghost use Rattle.seats.specs.SeatLayout.{reached_set};
 ghost use Rattle.seats.specs.Seats.{Guesses};
 ghost use Rattle.reach.specs.Reach.{follow_of, WordAnswer, GuessesFor, RowFits, RowAnswer, RowsAnswer};
 
-use byte_classes::Counted;
 use scope::Machine;
-use seats::{GUESSES, NO_GUESS, seat};
+use seats::{GUESSES, seat};
 use sets::Set;
 use sets::layout::SETS_AT;
 
@@ -39,68 +38,55 @@ fn follows(words: &[u64], s: Set) -> Set
     ensures { set_value result.words ≡ joined (follow_of words.now (set_value s.words)) set_bits }
 {
     let mut union = Set::none();
-    let mut w: usize = 0;
-    while w < Machine::SET_WORDS {
-        union = follows_word(words, w, s.words[w], union);
-        w += 1;
+    for (w, x) in s.words.iter().enumerate() {
+        union = follows_word(words, w, *x, union);
     }
     union
 }
 
-// Fills the row of the state q, whose set has the follow sets `union`: the number of reached sets then.
+// Fills the row of the state q, whose set has the follow sets `union`: the number of reached sets then, if they are not too many.
 fn row(
     image: &mut [u8],
     words: &mut [u64],
-    guesses: &mut [u16],
+    guesses: &mut [Option<u8>],
     masks: &[u64],
     k: usize,
     q: usize,
     n: usize,
     union: Set,
-) -> Counted
+) -> Option<usize>
     requires { RowFits image.old words.old masks.now k q n × Guesses words.old guesses.old n }
     ensures guesses_for { GuessesFor words.new guesses.new result }
     ensures row_answer { RowAnswer image.old words.old masks.now k q n (set_value union.words) image.new words.new result }
 {
     let at = Machine::CELLS_AT + q * k;
     let mut m = n;
-    let mut c: usize = 0;
-    while c < k {
-        let i = seat(words, guesses, m, union.common(sets::load(masks, c)));
-        if i == Machine::STATES {
-            return Counted::Many;
-        }
+    for c in 0..k {
+        let i = seat(words, guesses, m, union.common(sets::load(masks, c)))?;
         if i == m {
             m += 1;
         }
         image[at + c] = i as u8;
-        c += 1;
     }
-    Counted::Few(m)
+    Some(m)
 }
 
-// Fills the rows of all reached sets, of which {0} is there: the number of reached sets.
-pub fn rows(image: &mut [u8], words: &mut [u64], masks: &[u64], k: usize) -> Counted
+// Fills the rows of all reached sets, of which {0} is there: the number of reached sets, if they are not too many. The follow sets are read from the words into which seats are
+// put, so no struct holds these; and `RowFits` speaks of the masks and of how many of them count.
+pub fn rows(image: &mut [u8], words: &mut [u64], masks: &[u64], k: usize) -> Option<usize>
     requires row_fits { RowFits image.old words.old masks.now k 0 1 }
     requires words_value { reached_set words.old 0 ≡ 1 }
     ensures { RowsAnswer image.old words.old masks.now k image.new words.new result }
 {
-    let mut guesses = [NO_GUESS; GUESSES];
-    guesses[1] = 0;
-    let mut n: usize = 1;
-    let mut q: usize = 0;
+    let mut guesses = [None; GUESSES];
+    guesses[1] = Some(0);
+    let mut n = 1;
+    let mut q = 0;
+    // A row can add sets, and each has a row of its own.
     while q < n {
         let union = follows(words, sets::load(words, SETS_AT + q));
-        let counted = row(image, words, &mut guesses, masks, k, q, n, union);
-        match counted {
-            Counted::Few(m) => {
-                n = m;
-            }
-            Counted::Many => {
-                return Counted::Many;
-            }
-        }
+        n = row(image, words, &mut guesses, masks, k, q, n, union)?;
         q += 1;
     }
-    Counted::Few(n)
+    Some(n)
 }

@@ -1,8 +1,8 @@
 -- A text that loses its last byte, or gets one more: one byte of the text and its length are stored.
---   retyped_last, retyped_none: the last byte is taken out, or there is none
+--   retyped_last: the last byte is taken out
 --   retyped_more: a byte is put after the text
 use Prim.Native.Nat.{ℕ, ◌+◌, ◌*◌, ◌-◌, ◌≤◌, ◌<◌}
-use mathlib.Core.Path.{◌≡◌, refl, sym, ◌∙◌}
+use mathlib.Core.Path.{◌≡◌, sym, ◌∙◌}
 use mathlib.Core.Logic.{⊎_elim}
 use mathlib.Core.List.{List, [], ◌∷◌, ◌++◌}
 use native.Mathlib.Omega.{arith}
@@ -50,10 +50,6 @@ module _ {form : List ℕ} {f : ℕ} (h : f < field_limit) (l : form_bytes ≤ l
 
         over : (j : ℕ) → length_of form f - 1 ≤ j → get_or t j 0 ≡ 0
         over j x = get_or-eq_default t 0 (omega (arith, long))
-
-    -- there is none
-    pub retyped_none : length_of form f ≡ 0 → Retyped form form f (take (length_of form f - 1) (text_of form f))
-    retyped_none z = record { size = refl; long = rw z refl; bytes = λ i k. rw z (p.zero i k (omega arith)); outside = λ j x y. refl }
 
     -- a byte is put after the text
     pub retyped_more : (key : ℕ) → length_of form f < text_limit → Retyped form (set (set form (texts_at + f * text_limit + length_of form f) key) (lengths_at + f) (length_of form f + 1)) f (text_of form f ++ (key ∷ []))

@@ -13,10 +13,9 @@ pub fn take_last(form: &mut [u8], f: usize)
     requires { (f < field_limit) × (form_bytes ≤ length form.old) × Plain form.old f }
     ensures { Retyped form.old form.new f (take (length_of form.old f - 1) (text_of form.old f)) }
 {
-    let long = form[LENGTHS_AT + f] as usize;
-    if long > 0 {
-        form[TEXTS_AT + f * TEXT + (long - 1)] = 0;
-        form[LENGTHS_AT + f] = (long - 1) as u8;
+    if let Some(last) = form[LENGTHS_AT + f].checked_sub(1) {
+        form[TEXTS_AT + f * TEXT + last as usize] = 0;
+        form[LENGTHS_AT + f] = last;
     }
 }
 
@@ -25,7 +24,7 @@ pub fn append(form: &mut [u8], f: usize, key: u8)
     requires { (f < field_limit) × (form_bytes ≤ length form.old) × Plain form.old f × (length_of form.old f < text_limit) }
     ensures { Retyped form.old form.new f (text_of form.old f ++ (key ∷ [])) }
 {
-    let long = form[LENGTHS_AT + f] as usize;
-    form[TEXTS_AT + f * TEXT + long] = key;
-    form[LENGTHS_AT + f] = (long + 1) as u8;
+    let long = form[LENGTHS_AT + f];
+    form[TEXTS_AT + f * TEXT + long as usize] = key;
+    form[LENGTHS_AT + f] = long + 1;
 }

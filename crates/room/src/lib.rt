@@ -1,14 +1,15 @@
 // A machine room: its head read and written, whether its table is sound, one step of its machine, and the way home of a state.
 #![tactic(auto)]
 
-ghost use Rattle.std.specs.Prelude.{◌≡◌, ◌+◌, ◌*◌, ◌<◌, ◌≤◌, length};
+ghost use Rattle.std.specs.Prelude.{◌≡◌, ◌+◌, ◌*◌, ◌<◌, ◌≤◌, List, ℕ, None, IfSome, length, get_or, slice_index};
 ghost use Rattle.scope.specs.Limits.{byte_values, class_limit, state_limit, classes_at, room_bytes};
 ghost use Rattle.scope.specs.Operations.Buffers.{Written};
-ghost use Rattle.scope.specs.Machines.Room.{states_of, classes_of, cell_of, next_of, Below, SoundTable};
+ghost use Rattle.scope.specs.Machines.Room.{states_of, classes_of, class_of, mark_of, cell_of, next_of, Below, SoundTable};
 ghost use Rattle.buffers.specs.Stored.{Decides};
-ghost use Rattle.room.specs.Head.{head_byte, way_of};
+ghost use Rattle.room.specs.Head.{head_byte, TableRead, way_of};
 
 use scope::Machine;
+use std::marker::Model;
 
 // The head of a room: how many states and classes it has.
 pub fn head(room: &[u8]) -> Machine
@@ -69,30 +70,106 @@ pub fn is_table(room: &[u8]) -> bool
         && buffers::are_zero(room, cells_end, Machine::WAYS_AT)
 }
 
-// The cell for the state q and a class.
-pub fn cell(room: &[u8], q: usize, class: u8) -> usize
-    requires sound_table { SoundTable room.now }
-    requires q_bound { (q < states_of room.now) × (class < classes_of room.now) }
-    ensures { (result ≡ cell_of room.now q class) × (result < states_of room.now) }
-{
-    let k = head(room).classes;
-    room[Machine::CELLS_AT + (q * k + class as usize)] as usize
+// A room whose table is sound, with its head read. A clause sees the bytes of the room. That a number is one of its states is asked by each method: the number alone does
+// not know its room.
+#[derive(Drop)]
+pub struct Table<'a> {
+    bytes: &'a [u8],
+    head: Machine,
 }
 
-// The state to which the byte b leads from the state q.
-pub fn step(room: &[u8], q: usize, b: u8) -> usize
-    requires sound_table { SoundTable room.now }
-    requires q_bound { q < states_of room.now }
-    ensures { (result ≡ next_of room.now q b) × (result < states_of room.now) }
-{
-    cell(room, q, room[Machine::CLASSES_AT + b as usize])
+impl<'a> Model for Table<'a> {
+    ghost Value = { List ℕ };
+
+    ghost view = { λ t. t.bytes.now };
+
+    ghost invariant = { λ t. TableRead t.bytes.now t.head.states t.head.classes };
 }
 
-// The number of two bytes, the high one first.
-pub fn joined(high: u8, low: u8) -> u16
-    ensures { result ≡ high * byte_values + low }
-{
-    high as u16 * 256 + low as u16
+impl<'a> Table<'a> {
+    // The table of a room, where it is sound.
+    pub fn new(room: &'a [u8]) -> Table<'a>
+        requires { SoundTable room.now }
+        ensures { result ≡ room.now }
+    {
+        let head = head(room);
+        Table { bytes: room, head }
+    }
+
+    // The table of a room, if it is sound.
+    pub fn of(room: &'a [u8]) -> Option<Table<'a>>
+        ensures some { IfSome result (λ t. (t ≡ room.now) × SoundTable room.now) }
+        ensures none { result ≡ None → SoundTable room.now → ⊥ }
+    {
+        is_table(room).then(|| Table::new(room))
+    }
+
+    // The bytes of the room.
+    pub fn bytes(&self) -> &'a [u8]
+        ensures bytes { result.now ≡ self.now }
+        ensures sound { SoundTable self.now }
+        ensures fit { (i : ℕ) → slice_index self.now i < byte_values }
+    {
+        self.bytes
+    }
+
+    // How many states and classes it has.
+    pub fn head(&self) -> Machine
+        ensures counts { (result.states ≡ states_of self.now) × (result.classes ≡ classes_of self.now) }
+        ensures sound { SoundTable self.now }
+    {
+        self.head
+    }
+
+    // The class of each byte.
+    pub fn classes(&self) -> &'a [u8]
+        ensures { (length result.now ≡ byte_values) × ((b : ℕ) → b < byte_values → get_or result.now b 0 ≡ class_of self.now b) }
+    {
+        let bytes = self.bytes;
+        &bytes[Machine::CLASSES_AT..Machine::MARKS_AT]
+    }
+
+    // The class of the byte b.
+    pub fn class(&self, b: u8) -> u8
+        ensures { (result ≡ class_of self.now b) × (result < classes_of self.now) }
+    {
+        self.bytes[Machine::CLASSES_AT + b as usize]
+    }
+
+    // The mark of the state q: the byte of the room, as `mark_of` reads it.
+    pub fn mark(&self, q: usize) -> u8
+        requires { q < states_of self.now }
+        ensures { (result ≡ mark_of self.now q) × (result < 2) }
+    {
+        let bytes = self.bytes;
+        bytes[Machine::MARKS_AT + q]
+    }
+
+    // The cells of the state q, one for each class.
+    pub fn row(&self, q: usize) -> &'a [u8]
+        requires { q < states_of self.now }
+        ensures { (length result.now ≡ classes_of self.now) × ((c : ℕ) → c < classes_of self.now → get_or result.now c 0 ≡ cell_of self.now q c) }
+    {
+        let bytes = self.bytes;
+        let at = Machine::CELLS_AT + q * self.head.classes;
+        &bytes[at..at + self.head.classes]
+    }
+
+    // The cell for the state q and a class.
+    pub fn cell(&self, q: usize, class: u8) -> usize
+        requires { (q < states_of self.now) × (class < classes_of self.now) }
+        ensures { (result ≡ cell_of self.now q class) × (result < states_of self.now) × (states_of self.now ≤ state_limit) }
+    {
+        self.bytes[Machine::CELLS_AT + (q * self.head.classes + class as usize)] as usize
+    }
+
+    // The state to which the byte b leads from the state q.
+    pub fn step(&self, q: usize, b: u8) -> usize
+        requires { q < states_of self.now }
+        ensures { (result ≡ next_of self.now q b) × (result < states_of self.now) }
+    {
+        self.cell(q, self.class(b))
+    }
 }
 
 // The way home that is kept for the state q.
@@ -101,5 +178,5 @@ pub fn way(room: &[u8], q: usize) -> u16
     ensures { result ≡ way_of room.now q }
 {
     let at = Machine::WAYS_AT + q * 2;
-    joined(room[at], room[at + 1])
+    u16::from_be_bytes([room[at], room[at + 1]])
 }

@@ -1,22 +1,14 @@
 -- One round: old has the parts before, new those after it. A state that begins a part keeps it for ever; the part that it lay in before is its parent.
---   Opening q h p r link link' parent parent' born born': p is q, which is now the last of the chain of h, and born from h in round r
---   Joining q p link link' parent parent' born born': p is another state, and all that stays as it was
+--   Opening q h r link link' parent parent' born born': q is now the last of the chain of h, and born from h in round r
 --   OpensPart old new x: x begins a part in new and not in old
 --   Opened old new e: some state below e does
 --   Births old new parent parent' born born' r e: the states below e that do are born in round r; for the others nothing has changed
 use Rattle.std.specs.Prelude.{ℕ, ◌<◌, ◌≡◌, List, length, get_or, set}
 
-pub record Opening (q h p r : ℕ) (link link' parent parent' born born' : List ℕ) : Type 0 where
-  pub own : p ≡ q
+pub record Opening (q h r : ℕ) (link link' parent parent' born born' : List ℕ) : Type 0 where
   pub links : link' ≡ set (set link q (get_or link h 0)) h q
   pub parents : parent' ≡ set parent q h
   pub births : born' ≡ set born q r
-
-pub record Joining (q p : ℕ) (link link' parent parent' born born' : List ℕ) : Type 0 where
-  pub other : p ≡ q → ⊥
-  pub links : link' ≡ link
-  pub parents : parent' ≡ parent
-  pub births : born' ≡ born
 
 pub record OpensPart (old new : List ℕ) (x : ℕ) : Type 0 where
   pub begins : get_or new x 0 ≡ x

@@ -5,43 +5,37 @@
 // that begin new parts within its old one.
 #![tactic(auto)]
 
-ghost use Rattle.std.specs.Prelude.{◌≡◌, true, false, ℕ, ◌≤◌, ◌<◌, length, get_or, set};
+ghost use Rattle.std.specs.Prelude.{◌≡◌, ℕ, ◌≤◌, ◌<◌, length, get_or, IfSome, unwrap_or};
 ghost use Rattle.buffers.specs.Stored.{Decides};
-ghost use Rattle.two_rooms.specs.Side.{both_limit, both, FirstStates};
-ghost use Rattle.two_rooms.specs.Kinds.{EachKind};
+ghost use Rattle.two_rooms.specs.Side.{both_limit, both};
+ghost use Rattle.parting.specs.CellRows.{CellRows};
 ghost use Rattle.parting.specs.Named.{Named, Renamed, OnePart, Agree};
-ghost use Rattle.parting.specs.CellRows.{row_width, CellRows};
 ghost use Rattle.signs.specs.Signs.{Steady, Stayed, Seen, Calm};
-ghost use Rattle.round.specs.Round.{Opening, Joining, Opened, Births};
+ghost use Rattle.round.specs.Round.{Opening, Opened, Births};
 
-// Gives the state q, whose part h begins, to the new part that p begins within it; whether that is q itself, born in round r. Then q is the last of the chain of h.
-fn shift(
-    q: usize,
-    h: usize,
-    p: usize,
-    r: u16,
-    link: &mut [u16; two_rooms::STATES],
-    next: &mut [u16; two_rooms::STATES],
-    parent: &mut [u16; two_rooms::STATES],
-    born: &mut [u16; two_rooms::STATES],
-) -> bool
-    requires { (q < both_limit) × (h < both_limit) × (p < both_limit) }
-    ensures next_after { next.new ≡ set next.old q p }
-    ensures opening { result ≡ true → Opening q h p r link.old link.new parent.old parent.new born.old born.new }
-    ensures joining { result ≡ false → Joining q p link.old link.new parent.old parent.new born.old born.new }
-{
-    next[q] = p as u16;
-    if p != q {
-        return false;
-    }
-    link[q] = link[h];
-    link[h] = q as u16;
-    parent[q] = h as u16;
-    born[q] = r;
-    true
+use parting::Moves;
+
+// For each part that a round opened, by its name: its parent, the part that it was split from, and the round that it was born in. They are two arrays, as `BirthTree` of
+// refinement speaks of two lists.
+#[derive(Drop)]
+pub struct Lineage {
+    pub parent: [u16; two_rooms::STATES],
+    pub born: [u16; two_rooms::STATES],
+    pub ghost long: { (length parent ≡ both_limit) × (length born ≡ both_limit) },
 }
 
-// The next state from `at` on that is to be looked at, n if there is none: one that does not begin its part, where it or the state that does is touched. A state agrees
+// Opens a new part within the part that h begins: q begins it, born in round r, and is the last of the chain of h.
+fn open(q: usize, h: usize, r: u16, link: &mut [u16; two_rooms::STATES], lineage: &mut Lineage)
+    requires { (q < both_limit) × (h < both_limit) }
+    ensures { Opening q h r link.old link.new lineage.old.parent lineage.new.parent lineage.old.born lineage.new.born }
+{
+    link[q] = link[h];
+    link[h] = q as u16;
+    lineage.parent[q] = h as u16;
+    lineage.born[q] = r;
+}
+
+// The next state from `at` on that is to be looked at, if there is one below n: one that does not begin its part, where it or the state that does is touched. A state agrees
 // still with the one that begins its part where neither is; so where one that begins a part is, all that come after it are tried: `seen` has then every sign.
 fn looked(
     part: &[u16; two_rooms::STATES],
@@ -49,74 +43,73 @@ fn looked(
     seen: &mut u64,
     at: usize,
     n: usize,
-) -> usize
+) -> Option<usize>
     requires at_le_n { (at ≤ n) × (n ≤ both_limit) }
     requires named { Named (OnePart part.now) part.now n }
     requires seen { Seen part.now touched seen.old at }
-    ensures lower_bound { (at ≤ result) × (result ≤ n) × (result < n → get_or part.now result 0 < result) }
-    ensures seen_to { Seen part.now touched seen.new result }
-    ensures calm_between { (x : ℕ) → x < result → at ≤ x → Calm part.now touched x }
+    ensures found { IfSome result (λ q. (at ≤ q) × (q < n) × (get_or part.now q 0 < q)) }
+    ensures seen_to { Seen part.now touched seen.new (unwrap_or result n) }
+    ensures calm_between { (x : ℕ) → x < unwrap_or result n → at ≤ x → Calm part.now touched x }
 {
-    let mut q = signs::seek(*seen, at, n);
-    while q < n {
+    let mut next = at;
+    while let Some(q) = signs::seek(*seen, next, n) {
         let h = part[q] as usize;
         if h < q {
             if (signs::sign(q) | signs::sign(h)) & touched != 0 {
-                return q;
+                return Some(q);
             }
         } else {
             *seen = u64::MAX;
         }
-        q = signs::seek(*seen, q + 1, n);
+        next = q + 1;
     }
-    n
+    None
 }
 
 // One round, from part to next, which is the same before, with the births of round r; whether it opened a part. `touched` has the signs of the states that a byte leads
-// to one that moved in the last round, and then in this one. `link` is 0 before.
+// to one that moved in the last round, and then in this one. `link` is 0 before. There is no heap: chains and parents are numbers of states, and the arrays are apart, since
+// one is copied whole onto another.
 pub fn round(
-    a: &[u8],
-    b: &[u8],
-    least: &[u8],
-    rows: &[u64],
+    moves: &Moves,
     from: &[u64; two_rooms::STATES],
     part: &[u16; two_rooms::STATES],
     touched: &mut u64,
     link: &mut [u16; two_rooms::STATES],
     next: &mut [u16; two_rooms::STATES],
-    parent: &mut [u16; two_rooms::STATES],
-    born: &mut [u16; two_rooms::STATES],
-    n: usize,
+    lineage: &mut Lineage,
     r: u16,
 ) -> bool
-    requires first_states { FirstStates a.now b.now n }
-    requires each_kind { EachKind (both a.now b.now).next least.now × (row_width ≤ length least.now) }
-    requires cell_rows { CellRows (both a.now b.now).next least.now rows.now n }
-    requires named { Named (OnePart part.now) part.now n }
-    requires next_len { (length next.old ≡ both_limit) × (length parent.old ≡ both_limit) × (length born.old ≡ both_limit) }
-    requires steady { Steady (both a.now b.now).next part.now n touched.old }
-    requires next_is_part { (q : ℕ) → q < n → get_or next.old q 0 ≡ get_or part.now q 0 }
-    requires link_len { (length link.old ≡ both_limit) × ((x : ℕ) → get_or link.old x 0 ≡ 0) }
-    ensures renamed { Renamed (Agree (both a.now b.now).next part.now) next.old next.new n }
-    ensures births { Births part.now next.new parent.old parent.new born.old born.new r n }
-    ensures stayed { Stayed part.now next.new from.now n touched.new }
-    ensures decides { Decides result (Opened part.now next.new n) }
-    ensures link_cleared { (length link.new ≡ both_limit) × ((x : ℕ) → n ≤ x → get_or link.new x 0 ≡ 0) }
+    requires cell_rows { CellRows (both moves.now.pair.now.left moves.now.pair.now.right).next moves.now.least.now moves.now.rows.now moves.now.pair.now.states }
+    requires named { Named (OnePart part.now) part.now moves.now.pair.now.states }
+    requires steady { Steady (both moves.now.pair.now.left moves.now.pair.now.right).next part.now moves.now.pair.now.states touched.old }
+    requires next_is_part { (q : ℕ) → q < moves.now.pair.now.states → get_or next.old q 0 ≡ get_or part.now q 0 }
+    requires link_zero { (x : ℕ) → get_or link.old x 0 ≡ 0 }
+    ensures renamed { Renamed (Agree (both moves.now.pair.now.left moves.now.pair.now.right).next part.now) next.old next.new moves.now.pair.now.states }
+    ensures births { Births part.now next.new lineage.old.parent lineage.new.parent lineage.old.born lineage.new.born r moves.now.pair.now.states }
+    ensures stayed { Stayed part.now next.new from.now moves.now.pair.now.states touched.new }
+    ensures decides { Decides result (Opened part.now next.new moves.now.pair.now.states) }
+    ensures link_cleared { (x : ℕ) → moves.now.pair.now.states ≤ x → get_or link.new x 0 ≡ 0 }
 {
+    let n = moves.pair.states;
     let mut opened = false;
     let mut stirred: u64 = 0;
     let mut seen = *touched;
-    let mut q = looked(part, *touched, &mut seen, 0, n);
-    while q < n {
+    let mut at: usize = 0;
+    while let Some(q) = looked(part, *touched, &mut seen, at, n) {
         let h = part[q] as usize;
-        let p = parting::walk(a, b, least, rows, part, link, q);
-        if p != h {
-            stirred = stirred | from[q];
-            if shift(q, h, p, r, link, next, parent, born) {
+        let p = match moves.walk(part, link, q) {
+            Some(p) => p,
+            None => {
+                open(q, h, r, link, lineage);
                 opened = true;
+                q
             }
+        };
+        if p != h {
+            stirred |= from[q];
+            next[q] = p as u16;
         }
-        q = looked(part, *touched, &mut seen, q + 1, n);
+        at = q + 1;
     }
     *touched = stirred;
     opened

@@ -12,9 +12,9 @@
 mod rooms;
 mod show;
 
-ghost use Rattle.std.specs.Prelude.{◌≡◌, ◌≢◌, ℕ, ◌<◌, ◌≤◌, length, slice_index, IfOk};
+ghost use Rattle.std.specs.Prelude.{◌≤◌, length, IfOk};
 
-use answers::{Compared, Matched};
+use answers::{Compared, Matched, Numbered};
 use scope::Machine;
 use std::io;
 use std::io::{Read, Stdin, Stdout, Write};
@@ -27,13 +27,10 @@ fn compiles(out: &mut Stdout, pattern: &[u8]) -> io::Result<()> {
     let mut room = [0u8; Machine::ROOM];
     let mut bytes = [7u8; Machine::SCRATCH_BYTES];
     let mut words = [7u64; Machine::SCRATCH_WORDS];
-    let mut place: usize = 7;
-    let number = compile_numbers::compile(pattern, &mut room, &mut bytes, &mut words, &mut place);
-    if number == 0 {
-        return show::sizes(out, &room);
+    match compile::compile(pattern, &mut room, &mut bytes, &mut words) {
+        Ok(()) => show::sizes(out, &room),
+        Err(refusal) => write!(out, "refused {} at {}", refusal.number(), refusal.value()),
     }
-    show::refused(out, number)?;
-    show::number(out, b" at ", place)
 }
 
 // Minimises a room.
@@ -41,49 +38,40 @@ fn minimises(out: &mut Stdout, from: &[u8]) -> io::Result<()> {
     let mut to = [7u8; Machine::ROOM];
     let mut bytes = [7u8; Machine::SCRATCH_BYTES];
     let mut words = [7u64; Machine::SCRATCH_WORDS];
-    let number = minimise_numbers::minimise(from, &mut to, &mut bytes, &mut words);
-    if number == 0 {
-        return show::sizes(out, &to);
-    }
-    show::refused(out, number)
-}
-
-// Matches a text.
-fn matches_text(out: &mut Stdout, room: &[u8], text: &[u8]) -> io::Result<()> {
-    let answer = matching::match_text(room, text);
-    match answer {
-        Matched::Accepted => show::text(out, b"accepted"),
-        Matched::Dead(place) => show::number(out, b"dead ", place),
-        Matched::Unfinished => show::text(out, b"unfinished"),
-        _ => show::refused(out, answer.number()),
+    match smallest::minimise(from, &mut to, &mut bytes, &mut words) {
+        Ok(()) => show::sizes(out, &to),
+        Err(refusal) => show::refused(out, &refusal),
     }
 }
 
 // Matches a text as it is given, or the one that has a name.
-fn matches(out: &mut Stdout, room: &[u8], given: &[u8]) -> io::Result<()> {
-    if rooms::are_same(given, b"{lines}") {
-        return matches_text(out, room, b"a\nb");
+fn matches_text(out: &mut Stdout, room: &[u8], given: &[u8]) -> io::Result<()> {
+    let text: &[u8] = match given {
+        b"{lines}" => b"a\nb",
+        _ => given,
+    };
+    match matching::match_text(room, text) {
+        Ok(Matched::Accepted) => write!(out, "accepted"),
+        Ok(Matched::Dead(place)) => write!(out, "dead {place}"),
+        Ok(Matched::Unfinished) => write!(out, "unfinished"),
+        Err(refusal) => show::refused(out, &refusal),
     }
-    matches_text(out, room, given)
 }
 
 // Compares a room with that of a name or a pattern.
 fn compares(out: &mut Stdout, left: &[u8], given: &[u8]) -> io::Result<()> {
-    let start: usize = 0;
     let right = rooms::room_of(given);
-    let long = rooms::length_of(given);
     let mut word = [7u8; Machine::WORD];
     let mut bytes = [7u8; Machine::SCRATCH_BYTES];
     let mut words = [7u64; Machine::SCRATCH_WORDS];
-    let answer = compare::compare(left, &right[start..long], &mut word, &mut bytes, &mut words);
-    match answer {
-        Compared::Same(rounds) => show::number(out, b"same rounds ", rounds),
-        Compared::Separated(length, rounds) => {
-            show::text(out, b"separated ")?;
+    match compare::compare(left, right.bytes(), &mut word, &mut bytes, &mut words) {
+        Ok(Compared::Same(rounds)) => write!(out, "same rounds {rounds}"),
+        Ok(Compared::Separated(length, rounds)) => {
+            write!(out, "separated ")?;
             show::word(out, &word, length)?;
-            show::number(out, b" rounds ", rounds)
+            write!(out, " rounds {rounds}")
         }
-        _ => show::refused(out, answer.number()),
+        Err(refusal) => show::refused(out, &refusal),
     }
 }
 
@@ -92,96 +80,49 @@ fn packs(out: &mut Stdout, room: &[u8]) -> io::Result<()> {
     let mut form = [7u8; Machine::ROOM];
     let mut bytes = [7u8; Machine::SCRATCH_BYTES];
     let mut words = [7u64; Machine::SCRATCH_WORDS];
-    let mut length: usize = 7;
-    let number = pack_numbers::pack(room, &mut form, &mut bytes, &mut words, &mut length);
-    if number == 0 {
-        return show::number(out, b"bytes ", length);
+    match packing::pack(room, &mut form, &mut bytes, &mut words) {
+        Ok(length) => write!(out, "bytes {length}"),
+        Err(refusal) => show::refused(out, &refusal),
     }
-    show::refused(out, number)
-}
-
-// Where the first such byte stands from `from` on; the end of the line if there is none.
-fn find(line: &[u8], from: usize, byte: u8) -> usize
-    requires { from ≤ length line.now }
-    ensures within { (from ≤ result) × (result ≤ length line.now) }
-    ensures before { (k : ℕ) → from ≤ k → k < result → slice_index line.now k ≢ byte }
-    ensures found { result < length line.now → slice_index line.now result ≡ byte }
-{
-    for i in from..line.len() {
-        if line[i] == byte {
-            return i;
-        }
-    }
-    line.len()
-}
-
-// Where the word behind the one that ends at `end` begins.
-fn behind(line: &[u8], end: usize) -> usize
-    requires { end ≤ length line.now }
-    ensures { (end ≤ result) × (result ≤ length line.now) }
-{
-    if end < line.len() { end + 1 } else { end }
 }
 
 // Answers an operation on a room, and on what else it is given.
 fn asks_room(out: &mut Stdout, operation: &[u8], room: &[u8], other: &[u8]) -> io::Result<()> {
-    if rooms::are_same(operation, b"table") {
-        return show::table(out, room);
+    match operation {
+        b"table" => show::table(out, room),
+        b"minimise" => minimises(out, room),
+        b"match" => matches_text(out, room, other),
+        b"compare" => compares(out, room, other),
+        b"pack" => packs(out, room),
+        _ => Ok(()),
     }
-    if rooms::are_same(operation, b"minimise") {
-        return minimises(out, room);
-    }
-    if rooms::are_same(operation, b"match") {
-        return matches(out, room, other);
-    }
-    if rooms::are_same(operation, b"compare") {
-        return compares(out, room, other);
-    }
-    if rooms::are_same(operation, b"pack") {
-        return packs(out, room);
-    }
-    Ok(())
 }
 
 // Answers an operation on what it is given.
 fn asks(out: &mut Stdout, operation: &[u8], given: &[u8], other: &[u8]) -> io::Result<()> {
-    if rooms::are_same(operation, b"compile") {
+    if let b"compile" = operation {
         return compiles(out, given);
     }
-    let start: usize = 0;
-    let room = rooms::room_of(given);
-    let long = rooms::length_of(given);
-    asks_room(out, operation, &room[start..long], other)
+    asks_room(out, operation, rooms::room_of(given).bytes(), other)
 }
 
 // Answers a question.
 fn answers(out: &mut Stdout, line: &[u8]) -> io::Result<()> {
-    let start: usize = 0;
-    let end = find(line, start, b' ');
-    let from = behind(line, end);
-    let to = find(line, from, b' ');
-    let rest = behind(line, to);
-    asks(out, &line[start..end], &line[from..to], &line[rest..])
-}
-
-// Prints a question and its answer.
-fn prints(out: &mut Stdout, line: &[u8]) -> io::Result<()> {
-    show::text(out, line)?;
-    show::text(out, b" -> ")?;
-    answers(out, line)?;
-    show::text(out, b"\n")
+    let mut parts = line.splitn(3, |byte| *byte == b' ');
+    let operation = parts.next().unwrap_or(b"");
+    let given = parts.next().unwrap_or(b"");
+    let other = parts.next().unwrap_or(b"");
+    asks(out, operation, given, other)
 }
 
 // Prints every question and its answer.
 fn print_lines(out: &mut Stdout, input: &[u8]) -> io::Result<()> {
-    let mut at: usize = 0;
-    while at < input.len() {
-        let end = find(input, at, b'\n');
-        prints(out, &input[at..end])?;
-        if end == input.len() {
-            return Ok(());
-        }
-        at = end + 1;
+    for whole in input.split_inclusive(|byte| *byte == b'\n') {
+        let line = whole.strip_suffix(b"\n").unwrap_or(whole);
+        out.write_all(line)?;
+        write!(out, " -> ")?;
+        answers(out, line)?;
+        writeln!(out)?;
     }
     Ok(())
 }

@@ -4,20 +4,12 @@ ghost use Rattle.scope.specs.Limits.{room_bytes};
 
 use scope::Machine;
 
-// Whether two words are the same.
-pub fn are_same(a: &[u8], b: &[u8]) -> bool {
-    if a.len() != b.len() {
-        return false;
-    }
-    buffers::same(a, b, a.len())
-}
-
 // The room of a pattern; all 0, which is not sound, if the pattern is refused.
 fn compiled(pattern: &[u8]) -> [u8; Machine::ROOM] {
     let mut room = [0u8; Machine::ROOM];
     let mut bytes = [7u8; Machine::SCRATCH_BYTES];
     let mut words = [7u64; Machine::SCRATCH_WORDS];
-    compile::compile(pattern, &mut room, &mut bytes, &mut words);
+    let _ = compile::compile(pattern, &mut room, &mut bytes, &mut words);
     room
 }
 
@@ -25,8 +17,7 @@ fn compiled(pattern: &[u8]) -> [u8; Machine::ROOM] {
 fn empty() -> [u8; Machine::ROOM] {
     let mut room = [0u8; Machine::ROOM];
     room::write_head(&mut room, Machine::empty());
-    room[Machine::WAYS_AT] = 255;
-    room[Machine::WAYS_AT + 1] = 255;
+    room[Machine::WAYS_AT..Machine::WAYS_AT + 2].copy_from_slice(&Machine::NO_WAY.to_be_bytes());
     room
 }
 
@@ -36,8 +27,9 @@ fn padded() -> [u8; Machine::ROOM] {
     let mut room = compiled(b"[\\x00-\\xFF]*c|(ab*|a)b");
     room[Machine::CLASSES_AT + 99] = 0;
     room[Machine::WAYS_AT + 1] = 2;
-    room[Machine::WAYS_AT + 2] = 255;
-    room[Machine::WAYS_AT + 3] = 255;
+    room[Machine::WAYS_AT + 2..Machine::WAYS_AT + 4].copy_from_slice(
+        &Machine::NO_WAY.to_be_bytes(),
+    );
     room
 }
 
@@ -48,29 +40,39 @@ fn unsound() -> [u8; Machine::ROOM] {
     room
 }
 
-// The room of a name or a pattern.
-pub fn room_of(given: &[u8]) -> [u8; Machine::ROOM] {
-    if are_same(given, b"{empty}") {
-        return empty();
-    }
-    if are_same(given, b"{padded}") {
-        return padded();
-    }
-    if are_same(given, b"{unsound}") {
-        return unsound();
-    }
-    if are_same(given, b"{short}") {
-        return compiled(b"(ab*|a)b");
-    }
-    compiled(given)
+// A room, and how many of its bytes are lent.
+#[derive(Clone, Copy)]
+pub struct Lent {
+    room: [u8; Machine::ROOM],
+    long: usize,
+    ghost within: { long ≤ room_bytes },
 }
 
-// How many bytes of it are lent: all of them, but for `{short}`, the room of `(ab*|a)b` without its last byte.
-pub fn length_of(given: &[u8]) -> usize
-    ensures { result ≤ room_bytes }
-{
-    if are_same(given, b"{short}") {
-        return Machine::ROOM - 1;
+impl Lent {
+    // The bytes that are lent.
+    pub fn bytes(&self) -> &[u8] {
+        &self.room[..self.long]
     }
-    Machine::ROOM
+}
+
+// A room that is lent whole.
+fn whole(room: [u8; Machine::ROOM]) -> Lent {
+    Lent {
+        room,
+        long: Machine::ROOM,
+    }
+}
+
+// The room of a name or a pattern. Of `{short}`, the room of `(ab*|a)b`, the last byte is not lent.
+pub fn room_of(given: &[u8]) -> Lent {
+    match given {
+        b"{empty}" => whole(empty()),
+        b"{padded}" => whole(padded()),
+        b"{unsound}" => whole(unsound()),
+        b"{short}" => Lent {
+            room: compiled(b"(ab*|a)b"),
+            long: Machine::ROOM - 1,
+        },
+        _ => whole(compiled(given)),
+    }
 }

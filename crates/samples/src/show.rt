@@ -1,115 +1,81 @@
 // What answers are printed with.
 ghost use Rattle.std.specs.Prelude.{◌<◌};
-ghost use Rattle.scope.specs.Machines.Room.{states_of, Sound};
+ghost use Rattle.scope.specs.Machines.Room.{states_of};
 
+use answers::Numbered;
+use room::Table;
 use scope::Machine;
+use soundness::SoundRoom;
 use std::io;
 use std::io::{Stdout, Write};
 
-// Prints a text.
-pub fn text(out: &mut Stdout, text: &[u8]) -> io::Result<()> {
-    out.write_all(text)
-}
-
-// Prints a text and a number.
-pub fn number(out: &mut Stdout, before: &[u8], n: usize) -> io::Result<()> {
-    out.write_all(before)?;
-    write!(out, "{n}")
-}
-
 // Prints the number of a refusal.
-pub fn refused(out: &mut Stdout, n: u8) -> io::Result<()> {
-    number(out, b"refused ", n as usize)
+pub fn refused(out: &mut Stdout, refusal: &impl Numbered) -> io::Result<()> {
+    write!(out, "refused {}", refusal.number())
 }
 
 // Prints how many states and classes a room has.
 pub fn sizes(out: &mut Stdout, room: &[u8; Machine::ROOM]) -> io::Result<()> {
     let machine = room::head(room);
-    number(out, b"states ", machine.states)?;
-    number(out, b" classes ", machine.classes)
+    write!(out, "states {} classes {}", machine.states, machine.classes)
 }
 
-// Prints a byte in hex.
-fn byte(out: &mut Stdout, b: u8) -> io::Result<()> {
-    write!(out, "{b:02x}")
-}
-
-// Prints the first bytes of a string room in hex, `-` if there are none.
+// Prints the first bytes of a string room in hex, `-` if there are none: the room and the count, as comparing answers them.
 pub fn word(out: &mut Stdout, room: &[u8], count: usize) -> io::Result<()> {
     if count == 0 {
-        return text(out, b"-");
+        return write!(out, "-");
     }
-    let mut i: usize = 0;
-    while i < room.len() {
-        if i == count {
-            return Ok(());
-        }
-        byte(out, room[i])?;
-        i += 1;
+    for byte in room.iter().take(count) {
+        write!(out, "{byte:02x}")?;
     }
     Ok(())
 }
 
 // Prints the cells of the state q, between commas.
-fn row(out: &mut Stdout, room: &[u8], q: usize) -> io::Result<()>
-    requires { Sound room.now × (q < states_of room.now) }
+fn row(out: &mut Stdout, table: &Table, q: usize) -> io::Result<()>
+    requires { q < states_of table.now }
 {
-    let k = room::head(room).classes;
-    let mut c: usize = 0;
-    while c < k {
-        if c > 0 {
-            text(out, b",")?;
+    for class in 0..table.head().classes as u8 {
+        if class > 0 {
+            write!(out, ",")?;
         }
-        number(out, b"", room::cell(room, q, c as u8))?;
-        c += 1;
+        write!(out, "{}", table.cell(q, class))?;
     }
     Ok(())
 }
 
-// Prints the rows of the table, between slashes.
-fn rows(out: &mut Stdout, room: &[u8]) -> io::Result<()>
-    requires { Sound room.now }
-{
-    let n = room::head(room).states;
-    let mut q: usize = 0;
-    while q < n {
+// Prints the rows of a table, between slashes.
+fn rows(out: &mut Stdout, table: &Table) -> io::Result<()> {
+    for q in 0..table.head().states {
         if q > 0 {
-            text(out, b"/")?;
+            write!(out, "/")?;
         }
-        row(out, room, q)?;
-        q += 1;
+        row(out, table, q)?;
     }
     Ok(())
 }
 
 // Prints the states that accept, between commas, `-` if there are none.
-fn accepting(out: &mut Stdout, room: &[u8]) -> io::Result<()>
-    requires { Sound room.now }
-{
-    let mut none = true;
-    let mut q: usize = 0;
-    while q < Machine::STATES {
-        if room[Machine::MARKS_AT + q] == 1 {
-            if !none {
-                text(out, b",")?;
-            }
-            number(out, b"", q)?;
-            none = false;
+fn accepting(out: &mut Stdout, table: &Table) -> io::Result<()> {
+    let mut before = "";
+    for q in 0..table.head().states {
+        if table.mark(q) == 1 {
+            write!(out, "{before}{q}")?;
+            before = ",";
         }
-        q += 1;
     }
-    if none {
-        return text(out, b"-");
+    if before.is_empty() {
+        return write!(out, "-");
     }
     Ok(())
 }
 
 // Prints the table of a room, if it is sound.
 pub fn table(out: &mut Stdout, room: &[u8]) -> io::Result<()> {
-    if soundness::is_sound(room) {
-        rows(out, room)?;
-        text(out, b" ")?;
-        return accepting(out, room);
+    if let Some(sound) = SoundRoom::of(room) {
+        rows(out, sound.table())?;
+        write!(out, " ")?;
+        accepting(out, sound.table())?;
     }
     Ok(())
 }

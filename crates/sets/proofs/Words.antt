@@ -1,9 +1,11 @@
 -- What w words are as a number, over w: an operation that goes digit by digit goes word by word. By induction on w, the lowest word first.
---   value_or, value_and: the union and what is common
---   value_none, value_load, value_equal, value_other: the empty set, a set of a buffer, and when two sets are the same
+--   value_or, value_and, or_fits: the union and what is common; the words of a union fit
+--   value_none, value_load: the empty set, a set of a buffer
+--   same_set, equal_set: sets are equal where their numbers are
 --   has_set, has_at, one_at: the bit p stands in the word p / 64
 --   set_above: no others are there
---   put, set_kept, put_other: a set stored in a buffer; a set whose words stay; the others there
+--   load, put: a set read from a buffer, and written there
+--   set_kept, put_other: a set whose words stay; the others there
 use Prim.Native.Nat.{ℕ, zero, suc, ◌+◌, ◌-◌, ◌*◌, ◌/◌, ◌%◌, ◌^◌, ◌≤◌, ◌<◌}
 use mathlib.Core.Path.{◌≡◌, refl, sym, ap, ap₂, ◌∙◌}
 use mathlib.Core.Bool.{false}
@@ -12,16 +14,26 @@ use mathlib.Core.Logic.{◌⊎◌, inl, inr}
 use native.Mathlib.Nat.{add-zero, zero-add, add-suc, suc-add, suc-mul, mul_assoc, mul-le-mul_right, lt_of_lt_of_le, mul-add-div_right, mul-add-mod_self_right, div-eq_of_lt, mod-eq_of_lt, mod-lt, mod-mod, div-add-mod'}
 use native.Mathlib.Omega.{arith}
 use native.Mathlib.Decide.{ℕ_discrete}
+use borrow.Author.Rules.{rules}
+use borrow.Author.Tests.{eq-eqb, eqb-true}
+use borrow.Rule.Slice.PartMut.{put_mid}
 use lib.Dec.{eqb}
 use lib.Pow.{pow-add, pow_pos, pow-lt, shr-shr}
 use lib.Bits.{bit_or, bit_and, or_block, and_block, or_mod, and_mod}
-use lib.ListN.{get_or, set, replicate, get_or-replicate}
+use lib.Pointwise.{pointwise}
+use lib.ListN.{length, get_or, take, drop, set, replicate, get_or-replicate}
 use lib.Seq.{get_or-set_same, get_or-set_other}
+use Rattle.std.proofs.lemmas.List.{places, ext_get_or, get_or_past}
+use Rattle.std.proofs.lemmas.Nat.{or_lt}
+use Rattle.std.proofs.lemmas.Slice.Eq.{slice_eq-Decides}
+use Rattle.std.proofs.lemmas.Bool.Decides.{Decides-eqb, same_from_decides}
 use Rattle.scope.specs.Positions.Bits.{has}
 use Rattle.scope.specs.Limits.{set_words}
+use Rattle.scope.specs.Operations.Buffers.{Written}
 use Rattle.scope.proofs.Counting.Tests.{split, which}
 use Rattle.scope.proofs.Positions.Bits.{has_small}
-use Rattle.buffers.specs.Stored.{Stored}
+use Rattle.buffers.proofs.OneMore.{stored_part}
+use Rattle.sets.specs.declared.Set.{Set}
 use Rattle.sets.specs.Value.{set_bits, value_at, set_value, set_at, Put}
 
 on : (m : List ℕ) (i x : ℕ) → get_or m (suc i + x) 0 ≡ get_or m (i + suc x) 0
@@ -48,11 +60,18 @@ module _ (f : ℕ → ℕ → ℕ) (none : f 0 0 ≡ 0) (cut : (a b k : ℕ) →
       (ap (λ (n : ℕ). n % 2 ^ 64) (rw (at, at, at) at (e 0 (omega arith))) ∙ cut (get_or a i 0) (get_or b j 0) 64)
       ∙ sym (block 64 _ _ _ _ (small _) (small _))
 
-pub value_or : (a b r : List ℕ) → ((x : ℕ) → x < set_words → get_or r x 0 ≡ bit_or (get_or a x 0) (get_or b x 0)) → set_value r ≡ bit_or (set_value a) (set_value b)
-value_or a b r e = value_of bit_or refl or_mod or_block set_words a b r 0 0 0 (λ x h. rw zero-add (e x h))
+pub value_or : (a b : List ℕ) {r z : List ℕ} → Written set_words (λ x. bit_or (get_or a x 0) (get_or b x 0)) z r → set_value r ≡ bit_or (set_value a) (set_value b)
+value_or a b {r} w = value_of bit_or refl or_mod or_block set_words a b r 0 0 0 (λ x h. rw zero-add (w.inside x h))
 
-pub value_and : (a b r : List ℕ) → ((x : ℕ) → x < set_words → get_or r x 0 ≡ bit_and (get_or a x 0) (get_or b x 0)) → set_value r ≡ bit_and (set_value a) (set_value b)
-value_and a b r e = value_of bit_and refl and_mod and_block set_words a b r 0 0 0 (λ x h. rw zero-add (e x h))
+pub value_and : (a b : List ℕ) {r z : List ℕ} → Written set_words (λ x. bit_and (get_or a x 0) (get_or b x 0)) z r → set_value r ≡ bit_and (set_value a) (set_value b)
+value_and a b {r} w = value_of bit_and refl and_mod and_block set_words a b r 0 0 0 (λ x h. rw zero-add (w.inside x h))
+
+-- the words of a union fit
+pub or_fits : (s t : Set) {r z : List ℕ} → Written set_words (λ x. bit_or (get_or s.words x 0) (get_or t.words x 0)) z r → length r ≡ set_words → (x : ℕ) → get_or r x 0 < 2 ^ 64
+or_fits s t {r} w l x = elim (split x set_words) [
+  | inl h ↦ rw (w.inside x h) (or_lt 64 _ _ (s.fits x) (t.fits x))
+  | inr h ↦ rw (get_or_past r x 0 (omega arith)) (omega arith)
+]
 
 -- ---- the same words, the same number
 
@@ -64,9 +83,6 @@ value_same (suc w) a b i j e =
 
 pub value_load : (m r : List ℕ) (i : ℕ) → ((x : ℕ) → x < set_words → get_or r x 0 ≡ get_or m (i * set_words + x) 0) → set_value r ≡ set_at m i
 value_load m r i e = value_same set_words r m 0 (i * set_words) (λ x h. rw zero-add (e x h))
-
-pub value_equal : (a b : List ℕ) → ((x : ℕ) → x < set_words → get_or a x 0 ≡ get_or b x 0) → set_value a ≡ set_value b
-value_equal a b e = value_same set_words a b 0 0 (λ x h. rw zero-add (e x h))
 
 value_nil : (w : ℕ) (m : List ℕ) (k : ℕ) → ((x : ℕ) → x < w → get_or m (k + x) 0 ≡ 0) → value_at m k w ≡ 0
 unfolding value_at
@@ -94,8 +110,17 @@ same_words (suc w) a b i j e zero h = rw (at, at) (sym (low _ _) ∙ ap (λ (n :
 same_words (suc w) a b i j e (suc x) h =
     rw (← on a i x, ← on b j x) (same_words w a b (suc i) (suc j) (sym (high _ _) ∙ ap (λ (n : ℕ). n / 2 ^ 64) e ∙ high _ _) x (omega arith))
 
-pub value_other : (a b : List ℕ) (x : ℕ) → x < set_words → get_or a x 0 < 2 ^ 64 → get_or b x 0 < 2 ^ 64 → (get_or a x 0 ≡ get_or b x 0 → ⊥) → set_value a ≡ set_value b → ⊥
-value_other a b x h fa fb ne e = ne (sym (mod-eq_of_lt fa) ∙ rw (zero-add x) at (same_words set_words a b 0 0 e x h) ∙ mod-eq_of_lt fb)
+-- the same number, the same words, of those that a set has
+same_set : (s t : Set) → set_value s.words ≡ set_value t.words → s.words ≡ t.words
+same_set s t e = ext_get_or 0 s.words t.words (s.long ∙ sym t.long)
+    (λ x h. sym (mod-eq_of_lt (s.fits x)) ∙ rw (zero-add x) at (same_words set_words s.words t.words 0 0 e x (omega (arith, s.long))) ∙ mod-eq_of_lt (t.fits x))
+
+-- sets are equal where their numbers are
+pub equal_set : (s t : Set) → pointwise eqb s.words t.words ≡ eqb (set_value s.words) (set_value t.words)
+equal_set s t = same_from_decides _ _ (slice_eq-Decides Decides-eqb s.words t.words _ refl) (
+  λ e. same_set s t (eqb-true _ _ e),
+  λ e. eq-eqb _ _ (ap set_value e),
+)
 
 -- ---- one bit
 
@@ -172,15 +197,19 @@ one_at p v h e =
 
 -- ---- sets of a buffer
 
--- the words of a set, stored at its place
-pub put : (m m' s : List ℕ) (i : ℕ) {w : ℕ} → Stored m m' (i * set_words) (i * set_words + w) (λ j. get_or s (j - i * set_words) 0) → w ≡ set_words → Put m m' i (set_value s)
-put m m' s i x z = let y = rw z at x in
-    record {
+-- the words of a set, written at its place
+pub put : (m s : List ℕ) (i k : ℕ) → k ≡ set_words → i * set_words + set_words ≤ length m → length s ≡ set_words → Put m (put_mid (i * set_words) k m s) i (set_value s)
+put m s i k e h l = let y = stored_part (i * set_words) set_words m s h l in
+    rw e (record {
       size = y.size;
-      here = sym (value_load m' s i (λ j h. let e : i * set_words + j - i * set_words ≡ j = omega arith in
-          sym (y.inside (i * set_words + j) (omega arith) (omega arith) ∙ ap (λ (n : ℕ). get_or s n 0) e)));
+      here = sym (value_load _ s i (λ j q. let d : i * set_words + j - i * set_words ≡ j = omega arith in
+          sym (y.inside (i * set_words + j) (omega arith) (omega arith) ∙ ap (λ (n : ℕ). get_or s n 0) d)));
       outside = y.outside;
-    }
+    })
+
+-- the words of a set, read at its place
+pub load : (m s : List ℕ) (i k : ℕ) → k ≡ set_words → s ≡ take k (drop (i * set_words) m) → set_value s ≡ set_at m i
+load m s i k e h = rw (h, e) (value_load m _ i (λ x q. search (rules, places)))
 
 -- a set whose words stay
 pub set_kept : (m m' : List ℕ) (i : ℕ) → ((x : ℕ) → x < set_words → get_or m' (i * set_words + x) 0 ≡ get_or m (i * set_words + x) 0) → set_at m' i ≡ set_at m i

@@ -2,7 +2,7 @@
 // the lowest first.
 #![tactic(auto)]
 
-ghost use Rattle.std.specs.Prelude.{◌≡◌, ◌+◌, ◌*◌, ◌^◌, ◌<◌, ◌≤◌, eqb, length};
+ghost use Rattle.std.specs.Prelude.{◌≡◌, ℕ, ◌+◌, ◌*◌, ◌^◌, ◌<◌, ◌≤◌, eqb, length, slice_index};
 ghost use Rattle.std.specs.Int.Bits.{bit_or, bit_and};
 ghost use Rattle.scope.specs.Limits.{set_words};
 ghost use Rattle.sets.specs.Value.{set_bits, set_value, set_at, Put};
@@ -11,10 +11,12 @@ use scope::Machine;
 
 pub mod layout;
 
-// A set of positions.
-#[derive(Clone, Copy)]
+// A set of positions: its words, each below 2 ^ 64.
+#[derive(Clone, Copy, PartialEq, Eq)]
 pub struct Set {
     pub words: [u64; Machine::SET_WORDS],
+    ghost long: { length words ≡ set_words },
+    ghost fits: { (w : ℕ) → slice_index words w < 2 ^ 64 },
 }
 
 impl Set {
@@ -53,49 +55,29 @@ impl Set {
         ensures { set_value result.words ≡ bit_or (set_value self.words) (set_value other.words) }
     {
         let mut r = [0u64; Machine::SET_WORDS];
-        let mut i: usize = 0;
-        while i < Machine::SET_WORDS {
+        for i in 0..Machine::SET_WORDS {
             r[i] = self.words[i] | other.words[i];
-            i += 1;
         }
         Set { words: r }
     }
 
-    // What both have.
+    // What both have. It differs from the union in one operator, and a closure for that is as long as the loop.
     pub fn common(self, other: Set) -> Set
         ensures { set_value result.words ≡ bit_and (set_value self.words) (set_value other.words) }
     {
         let mut r = [0u64; Machine::SET_WORDS];
-        let mut i: usize = 0;
-        while i < Machine::SET_WORDS {
+        for i in 0..Machine::SET_WORDS {
             r[i] = self.words[i] & other.words[i];
-            i += 1;
         }
         Set { words: r }
     }
 
-    // Whether both have the same positions.
-    pub fn same(self, other: Set) -> bool
-        ensures { result ≡ eqb (set_value self.words) (set_value other.words) }
+    // Whether no position is in the set.
+    pub fn is_empty(self) -> bool
+        ensures { result ≡ eqb (set_value self.words) 0 }
     {
-        let mut i: usize = 0;
-        while i < Machine::SET_WORDS {
-            let x = word(self.words[i]);
-            let y = word(other.words[i]);
-            if x != y {
-                return false;
-            }
-            i += 1;
-        }
-        true
+        self == Set::none()
     }
-}
-
-// A word, which is below 2 ^ 64: an element of an array in a struct does not say so by itself.
-fn word(x: u64) -> u64
-    ensures { (result ≡ x) × (result < 2 ^ 64) }
-{
-    x
 }
 
 // The set number i of the words.
@@ -105,11 +87,7 @@ pub fn load(words: &[u64], i: usize) -> Set
 {
     let at = i * Machine::SET_WORDS;
     let mut r = [0u64; Machine::SET_WORDS];
-    let mut w: usize = 0;
-    while w < Machine::SET_WORDS {
-        r[w] = words[at + w];
-        w += 1;
-    }
+    r.copy_from_slice(&words[at..at + Machine::SET_WORDS]);
     Set { words: r }
 }
 
@@ -119,9 +97,5 @@ pub fn store(words: &mut [u64], i: usize, s: Set)
     ensures { Put words.old words.new i (set_value s.words) }
 {
     let at = i * Machine::SET_WORDS;
-    let mut w: usize = 0;
-    while w < Machine::SET_WORDS {
-        words[at + w] = s.words[w];
-        w += 1;
-    }
+    words[at..at + Machine::SET_WORDS].copy_from_slice(&s.words);
 }

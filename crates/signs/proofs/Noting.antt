@@ -1,6 +1,6 @@
 -- The cells of a state are noted one after the other: its sign with each state that they lead to.
 --   Noting: the loop over the classes of one state
---   noting_none, noting_more, noting_set, noting_again: its turns
+--   noting_first, noting_more, noting_set, noting_again: its first turn, and the others
 --   sources_left, sources_right: the sources of one state more
 use Prim.Native.Nat.{ℕ, ◌+◌, ◌-◌, ◌%◌, ◌^◌, ◌≤◌, ◌<◌}
 use mathlib.Core.Path.{◌≡◌, ◌∙◌}
@@ -20,21 +20,44 @@ use Rattle.two_rooms.proofs.Rooms.{next_left, next_right}
 use Rattle.signs.specs.Signs.{signs, Sources, Among, CellsNoted}
 use Rattle.signs.proofs.Signs.{or_left, or_right, sign_own}
 
--- the first c cells are noted; last is the state of such a cell, or none
+-- the first c cells are noted; last is the state of such a cell
 pub record Noting (room : List ℕ) (base q s : ℕ) (from₀ from : List ℕ) (last c : ℕ) : Type 0 where
   pub within : c ≤ classes_of room
   pub long : length from ≡ both_limit
   pub noted : CellsNoted room base q s from₀ from c
-  pub done : last < both_limit → Among s (get_or from last 0)
+  pub done : Among s (get_or from last 0)
+
+-- s is noted with y besides what was noted
+abbrev added : List ℕ → ℕ → ℕ → List ℕ
+added from y s = set from y (bit_or (get_or from y 0) s)
+
+module _ (s : ℕ) (from : List ℕ) {y : ℕ} (l : length from ≡ both_limit) (m : y < both_limit) where
+  at : get_or (added from y s) y 0 ≡ bit_or (get_or from y 0) s
+  at = get_or-set_same from y (bit_or (get_or from y 0) s) 0 (omega arith)
+
+  added_here : Among s (get_or (added from y s) y 0)
+  added_here = rw at (or_right (get_or from y 0) s)
+
+  added_still : (x : ℕ) → Among (get_or from x 0) (get_or (added from y s) x 0)
+  added_still x = elim (ℕ_discrete x y) [
+    | yes z ↦ rw (z, at) (or_left (get_or from y 0) s)
+    | no z ↦ rw (get_or-set_other from y x (bit_or (get_or from y 0) s) 0 z) (λ k h. h)
+  ]
+
+  added_long : length (added from y s) ≡ both_limit
+  added_long = length-set from y (bit_or (get_or from y 0) s) ∙ l
 
 module _ {room : List ℕ} {base q s : ℕ} where
-  -- no class yet
-  pub noting_none : {from : List ℕ} → length from ≡ both_limit → Noting room base q s from from both_limit 0
-  noting_none l = record {
+  -- the class 0 leads to y
+  pub noting_first : {from : List ℕ} {y : ℕ} → length from ≡ both_limit → 0 < classes_of room → y < both_limit → y ≡ base + cell_of room q 0 → Noting room base q s from (added from y s) y 1
+  noting_first {from} {y} l g m e = record {
     within = omega arith;
-    long = l;
-    noted = record { kept = λ y k h. h; here = λ c h. absurd (omega arith) };
-    done = λ h. absurd (omega arith);
+    long = added_long s from l m;
+    noted = record {
+      kept = added_still s from l m;
+      here = λ c h. let z : c ≡ 0 = omega arith in rw (z, ← e) (added_here s from l m);
+    };
+    done = added_here s from l m;
   }
 
   module _ {from₀ from : List ℕ} {last c y : ℕ} (d : Noting room base q s from₀ from last c) (l : c < classes_of room) (m : y < both_limit) (e : y ≡ base + cell_of room q c) where
@@ -47,25 +70,16 @@ module _ {room : List ℕ} {base q s : ℕ} where
         kept = λ x k h. still x k (d.noted.kept x k h);
         here = below_more (λ (j : ℕ). Among s (get_or from' (base + cell_of room q j) 0)) c (λ j h k z. still (base + cell_of room q j) k (d.noted.here j h k z)) (rw (← e) here);
       };
-      done = λ h. here;
+      done = here;
     }
 
     -- it is noted now
-    pub noting_set : Noting room base q s from₀ (set from y (bit_or (get_or from y 0) s)) y (c + 1)
-    noting_set = noting_more (length-set from y (bit_or (get_or from y 0) s) ∙ d.long) still (rw here (or_right (get_or from y 0) s))
-      where
-        here : get_or (set from y (bit_or (get_or from y 0) s)) y 0 ≡ bit_or (get_or from y 0) s
-        here = get_or-set_same from y (bit_or (get_or from y 0) s) 0 (omega (arith, d.long))
-
-        still : (x : ℕ) → Among (get_or from x 0) (get_or (set from y (bit_or (get_or from y 0) s)) x 0)
-        still x = elim (ℕ_discrete x y) [
-          | yes z ↦ rw (z, here) (or_left (get_or from y 0) s)
-          | no z ↦ rw (get_or-set_other from y x (bit_or (get_or from y 0) s) 0 z) (λ k h. h)
-        ]
+    pub noting_set : Noting room base q s from₀ (added from y s) y (c + 1)
+    noting_set = noting_more (added_long s from d.long m) (added_still s from d.long m) (added_here s from d.long m)
 
     -- or was before
     pub noting_again : y ≡ last → Noting room base q s from₀ from last (c + 1)
-    noting_again z = rw (← z) (noting_more d.long (λ x k h. h) (rw z (d.done (omega arith))))
+    noting_again z = rw (← z) (noting_more d.long (λ x k h. h) (rw z d.done))
 
 module _ {a b : List ℕ} {n : ℕ} (k : FirstStates a b n) {q s : ℕ} {from from' : List ℕ} (e : s ≡ 2 ^ (q % signs)) (f : Sources (both a b).next q from) where
   -- one state more, which a byte leads as its class does in the room

@@ -7,7 +7,7 @@ use Rattle.smallest_plan.specs.declared.Plan.{Plan}
 use Rattle.smallest_plan.specs.Planned.{SameOrder}
 
 pub record Stays (a : List ℕ) (p : Plan) : Type 0 where
-  pub states : p.states ≡ states_of a
-  pub classes : p.classes ≡ classes_of a
-  pub order : SameOrder p.order p.states
-  pub class : (x : ℕ) → x < byte_values → get_or p.class x 0 ≡ class_of a x
+  pub states : p.states.count ≡ states_of a
+  pub classes : p.classes.count ≡ classes_of a
+  pub order : SameOrder p.states.order p.states.count
+  pub class : (x : ℕ) → x < byte_values → get_or p.classes.class x 0 ≡ class_of a x

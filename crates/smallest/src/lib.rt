@@ -8,7 +8,7 @@ ghost use Rattle.std.specs.Prelude.{◌≤◌, length};
 ghost use Rattle.answers.specs.Numbers.{minimised_number};
 ghost use Rattle.scope.specs.Limits.{room_bytes};
 ghost use Rattle.scope.specs.Machines.Machine.{Equal};
-ghost use Rattle.scope.specs.Machines.Room.{machine, SoundTable};
+ghost use Rattle.scope.specs.Machines.Room.{machine};
 ghost use Rattle.scope.specs.Machines.Canonical.{CanonicalTable, Canonical};
 ghost use Rattle.scope.specs.Operations.Buffers.{TailKept};
 ghost use Rattle.scope.specs.Operations.Minimise.{Minimises};
@@ -16,78 +16,64 @@ ghost use Rattle.buffers.specs.Stored.{Decides};
 ghost use Rattle.two_rooms.specs.Side.{both_limit};
 ghost use Rattle.smallest_plan.specs.Planned.{Planned};
 
-use answers::Minimised;
+use answers::Refusal;
+use room::Table;
 use scope::Machine;
 use smallest_plan::Plan;
+use soundness::SoundRoom;
 
-// The smallest machine of a room with a sound table. It writes over the words.
-fn make_plan(from: &[u8], words: &mut [u64]) -> Plan
-    requires { SoundTable from.now × (both_limit ≤ length words.old) }
-    ensures { Planned from.now result × TailKept both_limit words.old words.new }
+// Makes the plan of the smallest machine of a room. It writes over the words.
+fn make_plan(room: &Table, words: &mut [u64], plan: &mut Plan)
+    requires { both_limit ≤ length words.old }
+    ensures { Planned room.now plan.new × TailKept both_limit words.old words.new }
 {
     let mut column = [0u8; Machine::BYTES];
     let mut part = [0u16; refinement::STATES];
-    let kinds = refinement::refine_alone(from, &mut column, &mut part, words).kinds;
-    let mut order = [0u8; Machine::STATES];
-    let mut into = [0u8; Machine::STATES];
-    let n = arrivals::arrivals(from, &part, &column, kinds, &mut order, &mut into);
-    let mut sort = [0u8; Machine::BYTES];
-    let mut leader = [0u8; Machine::BYTES];
-    let k = class_merging::merge(
-        from,
-        &order,
-        &into,
-        n,
-        &column,
-        kinds,
-        &mut sort,
-        &mut leader,
-    );
-    let class = class_merging::of_bytes(from, &sort);
-    Plan {
-        states: n,
-        order: order,
-        into: into,
-        classes: k,
-        class: class,
-        leader: leader,
-    }
+    let alone = refinement::refine_alone(room, &mut column, &mut part, words);
+    let columns = &column[..alone.kinds];
+    arrivals::arrivals(room, &part, columns, &mut plan.states);
+    class_merging::merge(room, &plan.states, columns, &mut plan.classes);
 }
 
-// Writes the canonical room of the strings of a room with a sound table.
-pub fn smallest(from: &[u8], to: &mut [u8], words: &mut [u64])
-    requires sound_table { SoundTable from.now }
-    requires room_bytes_in_bounds { (room_bytes ≤ length to.old) × (both_limit ≤ length words.old) }
-    ensures canonical { Canonical to.new × Equal (machine from.now) (machine to.new) × TailKept room_bytes to.old to.new }
+// Writes the canonical room of the strings of a room.
+pub fn smallest(room: &Table, to: &mut [u8], words: &mut [u64])
+    requires { (room_bytes ≤ length to.old) × (both_limit ≤ length words.old) }
+    ensures canonical { Canonical to.new × Equal (machine room.now) (machine to.new) × TailKept room_bytes to.old to.new }
     ensures tail_kept { TailKept both_limit words.old words.new }
 {
-    room_writing::write(from, make_plan(from, words), to);
+    let mut plan = Plan::EMPTY;
+    make_plan(room, words, &mut plan);
+    room_writing::write(room, &plan, to);
     way_writing::write_ways(to);
 }
 
 // Whether a sound table is canonical.
-pub fn is_canonical(room: &[u8], words: &mut [u64]) -> bool
-    requires { SoundTable room.now × (both_limit ≤ length words.old) }
+pub fn is_canonical(room: &Table, words: &mut [u64]) -> bool
+    requires { both_limit ≤ length words.old }
     ensures { Decides result (CanonicalTable room.now) × TailKept both_limit words.old words.new }
 {
-    stay::stays(room, make_plan(room, words))
+    let mut plan = Plan::EMPTY;
+    make_plan(room, words, &mut plan);
+    stay::stays(room, &plan)
 }
 
 // Minimising: reads one room, and writes into another the canonical machine of the same strings.
-pub fn minimise(from: &[u8], to: &mut [u8], bytes: &mut [u8], words: &mut [u64]) -> Minimised
+pub fn minimise(
+    from: &[u8],
+    to: &mut [u8],
+    bytes: &mut [u8],
+    words: &mut [u64],
+) -> Result<(), Refusal>
     ensures { Minimises from.now to.old to.new bytes.old bytes.new words.old words.new (minimised_number result) }
 {
-    if from.len() < Machine::ROOM {
-        return Minimised::Room;
+    if from.len() < Machine::ROOM || !buffers::is_lent(to, bytes, words) {
+        return Err(Refusal::Room);
     }
-    if !buffers::is_lent(to, bytes, words) {
-        return Minimised::Room;
-    }
-    if !soundness::is_sound(from) {
+    let Some(room) = SoundRoom::of(from) else {
         buffers::clear(bytes, words);
-        return Minimised::Form;
-    }
-    smallest(from, to, words);
+        return Err(Refusal::Form);
+    };
+    smallest(room.table(), to, words);
     buffers::clear(bytes, words);
-    Minimised::Done
+    Ok(())
 }

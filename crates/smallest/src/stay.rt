@@ -3,25 +3,19 @@ ghost use Rattle.buffers.specs.Stored.{Decides};
 ghost use Rattle.smallest_plan.specs.Planned.{Planned};
 ghost use Rattle.smallest.specs.Stays.{Stays};
 
+use room::Table;
 use scope::Machine;
 use smallest_plan::Plan;
 
 // Whether a plan changes nothing.
-pub fn stays(room: &[u8], plan: Plan) -> bool
-    requires { Planned room.now plan }
-    ensures { Decides result (Stays room.now plan) }
+pub fn stays(room: &Table, plan: &Plan) -> bool
+    requires { Planned room.now plan.now }
+    ensures { Decides result (Stays room.now plan.now) }
 {
-    let machine = room::head(room);
-    let n = plan.states;
-    let k = plan.classes;
-    if n != machine.states {
-        return false;
-    }
-    if k != machine.classes {
-        return false;
-    }
-    if !smallest_plan::is_same_order(&plan.order, n) {
-        return false;
-    }
-    buffers::same(&plan.class, &room[Machine::CLASSES_AT..], Machine::BYTES)
+    let head = room.head();
+    let n = plan.states.count;
+    n == head.states
+        && plan.classes.count == head.classes
+        && smallest_plan::is_same_order(&plan.states.order[..n])
+        && buffers::same(&plan.classes.class, room.classes(), Machine::BYTES)
 }

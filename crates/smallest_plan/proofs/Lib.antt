@@ -1,3 +1,4 @@
 pub mod Finer
+pub mod FrontOrder
 pub mod Kinded
 pub mod TableRows

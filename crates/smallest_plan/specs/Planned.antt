@@ -9,8 +9,8 @@ use Rattle.smallest_plan.specs.Classed.{Classed}
 
 pub record Planned (a : List ℕ) (p : Plan) : Type 0 where
   pub sound : SoundTable a
-  pub smallest : Smallest a p.order p.into p.states
-  pub classed : Classed a p.order p.into p.class p.leader p.states p.classes
+  pub smallest : Smallest a p.states
+  pub classed : Classed a p.states p.classes
 
 -- each of the first n numbers stands for itself
 abbrev pub SameOrder : List ℕ → ℕ → Type 0

@@ -21,7 +21,6 @@ use Rattle.room.specs.Head.{way_of}
 use Rattle.room.proofs.HeadAndParts.{cell_known}
 use Rattle.ways.specs.Held.{HeldClasses}
 use Rattle.ways.specs.LeastOver.{LeastOver}
-use Rattle.ways.proofs.HeldClasses.{held_below}
 use Rattle.ways.proofs.LeastOver.{least_none, least_more, right_rule, rule_right}
 use Rattle.way_rules.proofs.Rules.{descent, rules_way, way_rules, fewest_few}
 use Rattle.ways.proofs.Kept.{ways_kept}
@@ -73,7 +72,7 @@ unlowered_more m l i q least r a p h k = rw (get_or-set_other least q p r 0 (λ 
 
 -- a listed class leads to a state
 leads : {m l : List ℕ} {n : ℕ} → SoundTable m → HeldClasses m l n → (q j : ℕ) → q < states_of m → j < n → cell_of m q (get_or l j 0) < states_of m
-leads {m} {l} s h q j x y = (cell_known s q (get_or l j 0) x (held_below s h j y (omega arith))).1
+leads {m} {l} s h q j x y = (cell_known s q (get_or l j 0) x (h.below j y (omega arith))).1
 
 module _ {m l : List ℕ} {n : ℕ} (s : SoundTable m) (g : (j : ℕ) → get_or m j 0 < byte_values) (h : HeldClasses m l n)
     (k : (q : ℕ) → q < states_of m → Short (key_of m q)) where

@@ -6,14 +6,17 @@
 // first keeps the order.
 #![tactic(auto)]
 
-ghost use Rattle.std.specs.Prelude.{◌≡◌, ◌+◌, ◌<◌, ◌≤◌, eqb, length};
+ghost use Rattle.std.specs.Prelude.{◌≡◌, ◌+◌, ◌<◌, ◌≤◌, List, ℕ, None, IfSome, eqb, length};
 ghost use Rattle.scope.specs.Limits.{class_limit, state_limit, room_bytes};
-ghost use Rattle.scope.specs.Machines.Room.{states_of, classes_of, cell_of, Below, SoundTable, SoundWays, Sound};
+ghost use Rattle.scope.specs.Machines.Room.{states_of, classes_of, cell_of, Below, SoundWays, Sound};
 ghost use Rattle.buffers.specs.Stored.{Decides};
+ghost use Rattle.room.specs.Head.{way_of};
 ghost use Rattle.ways.specs.LeastOver.{LeastOver};
 ghost use Rattle.soundness.specs.WaysJudged.{four, key_of, Lowered, right_key, RightKeys};
 
+use room::Table;
 use scope::Machine;
+use std::marker::Model;
 
 // The two bytes beside the state q as a number, the low one first.
 fn key(room: &[u8], q: usize) -> u16
@@ -21,99 +24,73 @@ fn key(room: &[u8], q: usize) -> u16
     ensures { result ≡ key_of room.now q }
 {
     let at = Machine::WAYS_AT + q * 2;
-    room::joined(room[at + 1], room[at])
+    u16::from_le_bytes([room[at], room[at + 1]])
 }
 
-// The key of the state to which a class leads from the state q; k is the number of classes.
-fn next_key(room: &[u8], k: usize, q: usize, class: u8) -> u16
-    requires sound_table { SoundTable room.now × (k ≡ classes_of room.now) }
-    requires q_bound { (q < states_of room.now) × (class < classes_of room.now) }
+// The key of the state to which a class leads from the state q.
+fn next_key(room: &Table, q: usize, class: u8) -> u16
+    requires { (q < states_of room.now) × (class < classes_of room.now) }
     ensures { result ≡ key_of room.now (cell_of room.now q class) }
 {
-    key(
-        room,
-        room[Machine::CELLS_AT + (q * k + class as usize)] as usize,
-    )
+    key(room.bytes(), room.cell(q, class))
 }
 
-// So many classes are taken at a time.
+// So many classes are taken at a time, from a place of the list on: `LeastOver` counts them from its front.
 const FOUR: usize = 4;
 
 // The least key of those to which the first i classes of the list, one to four, lead from the state q.
-fn of_first(room: &[u8], k: usize, list: &[u8; Machine::CLASSES], i: usize, q: usize) -> u16
-    requires sound_table { SoundTable room.now × (k ≡ classes_of room.now) × (q < states_of room.now) }
+fn of_first(room: &Table, list: &[u8; Machine::CLASSES], i: usize, q: usize) -> u16
+    requires q_bound { q < states_of room.now }
     requires i_nonzero { (0 < i) × (i ≤ four) × Below list.now 0 i (classes_of room.now) }
     ensures { LeastOver room.now (key_of room.now) list.now i q result }
 {
-    let one = next_key(room, k, q, list[0]);
+    let one = next_key(room, q, list[0]);
     if i == 1 {
         return one;
     }
-    let two = ways::lesser(one, next_key(room, k, q, list[1]));
+    let two = one.min(next_key(room, q, list[1]));
     if i == 2 {
         return two;
     }
-    let three = ways::lesser(two, next_key(room, k, q, list[2]));
+    let three = two.min(next_key(room, q, list[2]));
     if i == 3 {
         return three;
     }
-    ways::lesser(three, next_key(room, k, q, list[3]))
+    three.min(next_key(room, q, list[3]))
 }
 
-// The same for all states.
-fn begin(room: &[u8], list: &[u8; Machine::CLASSES], i: usize, least: &mut [u16; Machine::STATES])
-    requires sound_table { SoundTable room.now }
-    requires i_nonzero { (0 < i) × (i ≤ four) × Below list.now 0 i (classes_of room.now) }
-    requires least_len { length least.old ≡ state_limit }
+// The least key over the first i classes of the list, one to four, for all states.
+fn begin(room: &Table, list: &[u8; Machine::CLASSES], i: usize, least: &mut [u16; Machine::STATES])
+    requires { (0 < i) × (i ≤ four) × Below list.now 0 i (classes_of room.now) }
     ensures { Lowered room.now list.now i (states_of room.now) least.new }
 {
-    let machine = room::head(room);
-    let n = machine.states;
-    let k = machine.classes;
-    let mut q: usize = 0;
-    while q < n {
-        least[q] = of_first(room, k, list, i, q);
-        q += 1;
+    for q in 0..room.head().states {
+        least[q] = of_first(room, list, i, q);
     }
 }
 
 // The least key over the first i classes of the list, lowered by those to which the next four lead from the state q.
-fn of_four(
-    room: &[u8],
-    k: usize,
-    list: &[u8; Machine::CLASSES],
-    i: usize,
-    q: usize,
-    least: u16,
-) -> u16
-    requires sound_table { SoundTable room.now × (k ≡ classes_of room.now) × (q < states_of room.now) }
+fn of_four(room: &Table, list: &[u8; Machine::CLASSES], i: usize, q: usize, least: u16) -> u16
+    requires q_bound { q < states_of room.now }
     requires four_bound { (i + four ≤ class_limit) × Below list.now 0 (i + four) (classes_of room.now) }
     requires least_over { LeastOver room.now (key_of room.now) list.now i q least }
     ensures { LeastOver room.now (key_of room.now) list.now (i + four) q result }
 {
-    let x = ways::lesser(least, next_key(room, k, q, list[i]));
-    let y = ways::lesser(x, next_key(room, k, q, list[i + 1]));
-    let z = ways::lesser(
-        next_key(room, k, q, list[i + 2]),
-        next_key(room, k, q, list[i + 3]),
-    );
-    ways::lesser(y, z)
+    let x = least.min(next_key(room, q, list[i]));
+    let y = x.min(next_key(room, q, list[i + 1]));
+    let z = next_key(room, q, list[i + 2]).min(next_key(room, q, list[i + 3]));
+    y.min(z)
 }
 
-// The same for all states.
-fn lower(room: &[u8], list: &[u8; Machine::CLASSES], i: usize, least: &mut [u16; Machine::STATES])
-    requires sound_table { SoundTable room.now }
+// The least key over the first i classes of the list, lowered by the next four, for all states. It stays apart from `begin`, before which there is no least key: one function
+// of both would take a key that is none, and a class more of each state.
+fn lower(room: &Table, list: &[u8; Machine::CLASSES], i: usize, least: &mut [u16; Machine::STATES])
     requires four_bound { (i + four ≤ class_limit) × Below list.now 0 (i + four) (classes_of room.now) }
     requires lowered { Lowered room.now list.now i (states_of room.now) least.old }
     ensures { Lowered room.now list.now (i + four) (states_of room.now) least.new }
 {
-    let machine = room::head(room);
-    let n = machine.states;
-    let k = machine.classes;
-    let mut q: usize = 0;
-    while q < n {
-        least[q] = of_four(room, k, list, i, q, least[q]);
-        q += 1;
+    for q in 0..room.head().states {
+        least[q] = of_four(room, list, i, q, least[q]);
     }
 }
 
@@ -134,28 +111,25 @@ fn right_key(mark: u8, least: u16) -> u16
     }
 }
 
-// Whether each of the n states has the key that its mark and the least ones give.
+// Whether each of the n states has the key that its mark and the least ones give. There is no early end: many are compared at a time.
 fn are_right(room: &[u8], n: usize, least: &[u16; Machine::STATES]) -> bool
     requires { (room_bytes ≤ length room.now) × (n ≤ state_limit) }
     ensures { Decides result (RightKeys room.now least.now n) }
 {
     let mut right = true;
-    let mut q: usize = 0;
-    while q < n {
+    for q in 0..n {
         if key(room, q) != right_key(room[Machine::MARKS_AT + q], least[q]) {
             right = false;
         }
-        q += 1;
     }
     right
 }
 
 // Whether the ways home of a room with a sound table are right.
-fn are_ways(room: &[u8]) -> bool
-    requires { SoundTable room.now }
+fn are_ways(room: &Table) -> bool
     ensures { Decides result (SoundWays room.now) }
 {
-    let n = room::head(room).states;
+    let n = room.head().states;
     let mut list: [u8; Machine::CLASSES] = [0; Machine::CLASSES];
     let count = ways::held(room, &mut list);
     let mut least: [u16; Machine::STATES] = [0; Machine::STATES];
@@ -165,7 +139,9 @@ fn are_ways(room: &[u8]) -> bool
         lower(room, &list, i, &mut least);
         i += FOUR;
     }
-    are_right(room, n, &least) && room::are_below(room, Machine::WAYS_AT + n * 2, Machine::ROOM, 1)
+    let bytes = room.bytes();
+    are_right(bytes, n, &least)
+        && room::are_below(bytes, Machine::WAYS_AT + n * 2, Machine::ROOM, 1)
 }
 
 // Whether a room is sound. The tail of a longer one is not read. A part of known length is passed on in a register; the room as it came would be copied in memory.
@@ -176,9 +152,59 @@ pub fn is_sound(room: &[u8]) -> bool
         return false;
     }
     let start: usize = 0;
-    let whole = &room[start..Machine::ROOM];
-    if !room::is_table(whole) {
-        return false;
+    match Table::of(&room[start..Machine::ROOM]) {
+        Some(table) => are_ways(&table),
+        None => false,
     }
-    are_ways(whole)
+}
+
+// A sound room. A clause sees its bytes.
+#[derive(Drop)]
+pub struct SoundRoom<'a> {
+    table: Table<'a>,
+}
+
+impl<'a> Model for SoundRoom<'a> {
+    ghost Value = { List ℕ };
+
+    ghost view = { λ s. s.table };
+
+    ghost invariant = { λ s. Sound s.table };
+}
+
+impl<'a> SoundRoom<'a> {
+    // A room that is sound.
+    pub fn new(room: &'a [u8]) -> SoundRoom<'a>
+        requires { Sound room.now }
+        ensures { result ≡ room.now }
+    {
+        SoundRoom {
+            table: Table::new(room),
+        }
+    }
+
+    // A room, if it is sound.
+    pub fn of(room: &'a [u8]) -> Option<SoundRoom<'a>>
+        ensures some { IfSome result (λ s. (s ≡ room.now) × Sound room.now) }
+        ensures none { result ≡ None → Sound room.now → ⊥ }
+    {
+        is_sound(room).then(|| SoundRoom::new(room))
+    }
+
+    // Its table.
+    pub fn table(&self) -> &Table<'a>
+        ensures table { result.now ≡ self.now }
+        ensures sound { Sound self.now }
+    {
+        &self.table
+    }
+
+    // The way home that is kept for the state q.
+    pub fn way(&self, q: usize) -> u16
+        requires { q < states_of self.now }
+        ensures way { result ≡ way_of self.now q }
+        ensures sound { Sound self.now }
+    {
+        room::way(self.table.bytes(), q)
+    }
 }

@@ -15,8 +15,8 @@ use mathlib.Core.List.{List}
 use mathlib.Core.Logic.{◌⊎◌, inl, inr}
 use native.Mathlib.Decide.{ℕ_discrete}
 use native.Mathlib.Omega.{arith}
-use lib.Bits.{bit_and, bit_xor, and_shr, xor_shr, and_mod, xor_mod}
-use lib.Dec.{eqb, leb, lit<}
+use lib.Bits.{bit_and}
+use lib.Dec.{leb, lit<}
 use lib.ListN.{length, get_or, set, length-set}
 use lib.Seq.{get_or-set_same, get_or-set_other}
 use Rattle.scope.specs.Bytes.{between}
@@ -24,25 +24,21 @@ use Rattle.scope.specs.Limits.{set_words}
 use Rattle.scope.specs.Positions.Bits.{has}
 use Rattle.scope.proofs.Counting.Tests.{split, which, same_test, and, at_most}
 use Rattle.scope.proofs.Positions.Bits.{digit, has_zero, has_ones, has_shr, has_small}
+use Rattle.scope.proofs.Positions.Moves.{has_and}
+use Rattle.std.specs.Int.{w64}
+use Rattle.std.proofs.lemmas.Nat.Bits.{bit_at_not}
 use Rattle.sets.specs.Value.{set_bits, set_at, Put}
 use Rattle.sets.proofs.Words.{has_set, put_other}
 use Rattle.spans.specs.Became.{Became}
 
 -- ---- bits
 
-pub has_without : (a b k : ℕ) → has (bit_xor a (bit_and a b)) k ≡ (has a k && not (has b k))
-has_without a b k = ap (λ (n : ℕ). eqb (n % 2) 1) (xor_shr a (bit_and a b) k ∙ ap (bit_xor (a / 2 ^ k)) (and_shr a b k)) ∙ go (a / 2 ^ k) (b / 2 ^ k)
+pub has_without : (a b j : ℕ) → j < 64 → b < 2 ^ 64 → has (bit_and a (2 ^ 64 - 1 - b)) j ≡ (has a j && not (has b j))
+has_without a b j h l = has_and a (2 ^ 64 - 1 - b) j ∙ ap (λ (y : Bool). has a j && y) (other (digit (b / 2 ^ j)))
   where
-    low : (x y : ℕ) → bit_xor x (bit_and x y) % 2 ≡ bit_xor (x % 2) (bit_and (x % 2) (y % 2))
-    low x y = xor_mod x (bit_and x y) 1 ∙ ap (bit_xor (x % 2)) (and_mod x y 1)
-
-    go : (x y : ℕ) → eqb (bit_xor x (bit_and x y) % 2) 1 ≡ (eqb (x % 2) 1 && not (eqb (y % 2) 1))
-    go x y = ap (λ (n : ℕ). eqb n 1) (low x y) ∙ by (digit x) (digit y)
-      where
-        by : (x % 2 ≡ 0) ⊎ (x % 2 ≡ 1) → (y % 2 ≡ 0) ⊎ (y % 2 ≡ 1) → eqb (bit_xor (x % 2) (bit_and (x % 2) (y % 2))) 1 ≡ (eqb (x % 2) 1 && not (eqb (y % 2) 1))
-        by (inl u) v = rw u
-        by (inr u) (inl v) = rw (u, v)
-        by (inr u) (inr v) = rw (u, v)
+    other : (b / 2 ^ j % 2 ≡ 0) ⊎ (b / 2 ^ j % 2 ≡ 1) → has (2 ^ 64 - 1 - b) j ≡ not (has b j)
+    other (inl e) = rw (bit_at_not w64 b j l h, e) refl
+    other (inr e) = rw (bit_at_not w64 b j l h, e) refl
 
 -- the positions up to p, in a word below its own
 pub low_all : (w p j : ℕ) → w < p / 64 → j < 64 → has (2 ^ 64 - 1) j ≡ leb (64 * w + j) p

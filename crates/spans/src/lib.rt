@@ -10,11 +10,20 @@ ghost use Rattle.spans.specs.Became.{Became};
 
 use scope::Machine;
 
-// The bits of x that y does not have.
-fn without(x: u64, y: u64) -> u64
-    ensures { (j : ℕ) → has result j ≡ (has x j && not (has y j)) }
-{
-    x ^ (x & y)
+// The positions after one up to another.
+#[derive(Clone, Copy)]
+pub struct Span {
+    pub after: usize,
+    pub upto: usize,
+}
+
+impl Span {
+    // The bits of the word number w of a set that stand for its positions.
+    fn bits(self, w: usize) -> u64
+        ensures { (j : ℕ) → j < 64 → has result j ≡ between (self.after + 1) self.upto (64 * w + j) }
+    {
+        low(w, self.upto) & !low(w, self.after)
+    }
 }
 
 // The bits of the word number w of a set that stand for the positions up to p.
@@ -30,13 +39,6 @@ fn low(w: usize, p: usize) -> u64
     0
 }
 
-// The bits of the word number w of a set that stand for the positions after `from` up to `to`.
-fn span(w: usize, from: usize, to: usize) -> u64
-    ensures { (j : ℕ) → j < 64 → has result j ≡ between (from + 1) to (64 * w + j) }
-{
-    without(low(w, to), low(w, from))
-}
-
 // Whether p is in the set number i.
 pub fn is_in(words: &[u64], i: usize, p: usize) -> bool
     requires { (p < set_bits) × (i * set_words + set_words ≤ length words.now) }
@@ -46,48 +48,37 @@ pub fn is_in(words: &[u64], i: usize, p: usize) -> bool
     (words[at + p / 64] >> (p % 64)) % 2 == 1
 }
 
-// Puts the positions after `from` up to `to` into the set number i.
-pub fn add(words: &mut [u64], i: usize, from: usize, to: usize)
+// Puts the positions of a span into the set number i.
+pub fn add(words: &mut [u64], i: usize, span: Span)
     requires { i * set_words + set_words ≤ length words.old }
-    ensures { Became words.old words.new i (λ q. has (set_at words.old i) q || between (from + 1) to q) }
+    ensures { Became words.old words.new i (λ q. has (set_at words.old i) q || between (span.after + 1) span.upto q) }
 {
     let at = i * Machine::SET_WORDS;
-    let mut w: usize = 0;
-    while w < Machine::SET_WORDS {
-        words[at + w] = words[at + w] | span(w, from, to);
-        w += 1;
+    for w in 0..Machine::SET_WORDS {
+        words[at + w] |= span.bits(w);
     }
 }
 
-// Takes the positions after `from` up to `to` out of the set number i, unless they are wanted.
-pub fn keep(words: &mut [u64], i: usize, wanted: bool, from: usize, to: usize)
+// Takes the positions of a span out of the set number i.
+pub fn remove(words: &mut [u64], i: usize, span: Span)
     requires { i * set_words + set_words ≤ length words.old }
-    ensures { Became words.old words.new i (λ q. has (set_at words.old i) q && (wanted || not (between (from + 1) to q))) }
+    ensures { Became words.old words.new i (λ q. has (set_at words.old i) q && not (between (span.after + 1) span.upto q)) }
 {
-    if wanted {
-        return;
-    }
     let at = i * Machine::SET_WORDS;
-    let mut w: usize = 0;
-    while w < Machine::SET_WORDS {
-        words[at + w] = without(words[at + w], span(w, from, to));
-        w += 1;
+    for w in 0..Machine::SET_WORDS {
+        words[at + w] &= !span.bits(w);
     }
 }
 
-// Puts what the set number i has of the positions after `from` up to `to` into the set number p, if it is wanted.
-pub fn put(words: &mut [u64], p: usize, wanted: bool, i: usize, from: usize, to: usize)
+// Puts what the set number i has of a span into the set number p.
+// It reads the words that it writes, as a closure over one word could not: so each of the three has its loop.
+pub fn put(words: &mut [u64], p: usize, i: usize, span: Span)
     requires { (p ≡ i → ⊥) × (p * set_words + set_words ≤ length words.old) × (i * set_words + set_words ≤ length words.old) }
-    ensures { Became words.old words.new p (λ q. has (set_at words.old p) q || (wanted && (has (set_at words.old i) q && between (from + 1) to q))) }
+    ensures { Became words.old words.new p (λ q. has (set_at words.old p) q || (has (set_at words.old i) q && between (span.after + 1) span.upto q)) }
 {
-    if !wanted {
-        return;
-    }
     let at = i * Machine::SET_WORDS;
     let into = p * Machine::SET_WORDS;
-    let mut w: usize = 0;
-    while w < Machine::SET_WORDS {
-        words[into + w] = words[into + w] | (words[at + w] & span(w, from, to));
-        w += 1;
+    for w in 0..Machine::SET_WORDS {
+        words[into + w] |= words[at + w] & span.bits(w);
     }
 }

@@ -1,38 +1,34 @@
 -- How a text stands, from one match of it. A text that died within its first bytes was dead before the others came; one that died later was not.
---   stood: how a text stands, read from its enum
 --   died_last: a text whose first bytes an open field can have died at once, or after them
---   stands_unfinished, stands_dead, stands_lost, stands_short, stands_unsound: how a text stands by each answer
---   StandsHeld s, stands_held: a field that is not lost has a sound room and a text that it can have while it is open
---   inside: the open field is one of the form's
---   text_first: its text is what a byte after it leaves
+--   stands_unfinished, stands_dead, stands_lost, stands_refused: how a text stands by each answer
+--   stands_held: a field whose text stands somehow has a sound room and a text that it can have while it is open
 --   text_held, text_lost: whether the field is one that keys lead to
+--   text_first: a text is what a byte after it leaves
+--   inside: the open field is one of the form's
 use Prim.Native.Nat.{ℕ, ◌≤◌, ◌<◌}
-use mathlib.Core.Path.{◌≡◌, refl, sym, ap, ◌∙◌, subst}
+use mathlib.Core.Path.{◌≡◌, refl, sym, ap, ◌∙◌}
 use mathlib.Core.Logic.{◌⊎◌, inl, inr, ⊎_elim}
 use mathlib.Core.List.{List, [], ◌∷◌, ◌++◌}
 use native.Mathlib.Omega.{arith}
-use lib.ListN.{length, get_or, take, drop, take-append-drop}
+use lib.ListN.{length, take, drop, take-append-drop}
 use lib.Seq.{length-take-le, take_all, take-append-le}
 use Rattle.scope.specs.Answers.{ROOM, FORM, DEAD}
 use Rattle.scope.specs.Answers as answers
 use Rattle.scope.specs.Bytes.{Bytes}
-use Rattle.scope.specs.Limits.{byte_values}
 use Rattle.scope.specs.Operations.Match.{Matches, no_room, no_form, accepted, dead, unfinished}
 use Rattle.scope.specs.Machines.Room.{Sound}
 use Rattle.scope.proofs.Counting.Tests.{split}
 use Rattle.scope.proofs.Operations.Match.{determined}
-use Rattle.entry_form.specs.EntryForm.{field_limit, length_of, text_of}
-use Rattle.entry_form.specs.Text.{field_room, IsAccepted, IsDead}
-use Rattle.entry_form.specs.ValidForm.{Plain, OpenText}
+use Rattle.entry_form.specs.EntryForm.{field_limit}
+use Rattle.entry_form.specs.Text.{IsAccepted, IsDead}
+use Rattle.entry_form.specs.ValidForm.{OpenText}
 use Rattle.entry_form.proofs.Dead.{prefix_kept, accepted_kept}
-use Rattle.entry_form.proofs.Texts.{text_length, text_bytes}
+use Rattle.std.specs.Prelude.{Some, None}
+use Rattle.answers.specs.declared.Refusal.{Refusal}
+use Rattle.answers.specs.Numbers.{refusal_number}
 use Rattle.standings.specs.declared.Standing.{Standing}
 use Rattle.standings.specs.Stand as stand
 use Rattle.standings.specs.Stand.{Stands, OtherFields}
-
--- how a text was found to stand, read from its enum
-pub stood : {room text : List ℕ} {kept : ℕ} {s t : Standing} → Stands room text kept s → s ≡ t → Stands room text kept t
-stood {room} {text} {kept} u e = subst (Stands room text kept) e u
 
 -- a room that was matched is sound
 pub accepted_sound : {room text : List ℕ} → IsAccepted room text → Sound room
@@ -71,62 +67,53 @@ module _ {room text : List ℕ} {kept : ℕ} (within : kept ≤ length text) whe
   died_last {i} m (inr n) = ⊎_elim inr (λ h. absurd (n (dead_before m h))) (split kept i)
 
   -- an unfinished text is neither accepted nor dead
-  pub stands_unfinished : Bytes text → Matches room text answers.UNFINISHED 0 → Stands room text kept Standing.Unfinished
+  pub stands_unfinished : Bytes text → Matches room text answers.UNFINISHED 0 → Stands room text kept (Some Standing.Unfinished)
   stands_unfinished g m = go m (λ a. omega (arith, (determined room text g a m).0)) (λ d. omega (arith, (determined room text g d.matched m).0))
     where
-      go : Matches room text answers.UNFINISHED 0 → (IsAccepted room text → ⊥) → (IsDead room text → ⊥) → Stands room text kept Standing.Unfinished
+      go : Matches room text answers.UNFINISHED 0 → (IsAccepted room text → ⊥) → (IsDead room text → ⊥) → Stands room text kept (Some Standing.Unfinished)
       go (unfinished s l n) a d = stand.unfinished s a d
 
   -- a text with none of them, or that died after them
-  pub stands_dead : {i : ℕ} → Matches room text DEAD i → (kept ≡ 0) ⊎ (kept < i) → Stands room text kept Standing.Dead
+  pub stands_dead : {i : ℕ} → Matches room text DEAD i → (kept ≡ 0) ⊎ (kept < i) → Stands room text kept (Some Standing.Dead)
   stands_dead {i} m h = stand.dead (record { place = i; matched = m }) (⊎_elim (λ z. inl (rw z refl)) (λ k. inr (dead_after m k)) h)
 
   -- a text that died within them
-  pub stands_lost : {i : ℕ} → Matches room text DEAD i → 0 < kept → i ≤ kept → Stands room text kept Standing.Lost
+  pub stands_lost : {i : ℕ} → Matches room text DEAD i → 0 < kept → i ≤ kept → Stands room text kept None
   stands_lost m h k = stand.lost (λ s. ⊎_elim (λ z. omega (arith, length-take-le kept text within, ap length z)) (λ n. n (dead_before m k)))
 
   -- a room that is too short, or not sound
-  pub stands_short : Matches room text ROOM 0 → Stands room text kept Standing.Lost
-  stands_short (no_room h) = stand.lost (λ s k. omega (arith, s.table.long))
+  pub stands_refused : (e : Refusal) → Matches room text (refusal_number e) 0 → Stands room text kept None
+  stands_refused Refusal.Room m = short m
+    where
+      short : Matches room text ROOM 0 → Stands room text kept None
+      short (no_room h) = stand.lost (λ s k. omega (arith, s.table.long))
+  stands_refused Refusal.Form m = unsound m
+    where
+      unsound : Matches room text FORM 0 → Stands room text kept None
+      unsound (no_form h n) = stand.lost (λ s k. n s)
 
-  pub stands_unsound : Matches room text FORM 0 → Stands room text kept Standing.Lost
-  stands_unsound (no_form h n) = stand.lost (λ s k. n s)
+-- ---- how a text stands
 
--- a field that is not lost
-abbrev pub StandsHeld : Standing → Type 0
-StandsHeld Standing.Accepted = Unit {0}
-StandsHeld Standing.Unfinished = Unit {0}
-StandsHeld Standing.Dead = Unit {0}
-StandsHeld Standing.Lost = ⊥
+-- a field whose text stands somehow has a sound room, and first bytes that it can have while it is open
+pub stands_held : {room text : List ℕ} {kept : ℕ} {s : Standing} → Bytes text → Stands room text kept (Some s) → Sound room × OpenText room (take kept text)
+stands_held {kept = k} g (stand.accepted a) = (accepted_sound a, inr (prefix_kept k (accepted_kept g a)))
+stands_held {kept = k} g (stand.unfinished s a d) = (s, inr (prefix_kept k d))
+stands_held g (stand.dead d k) = (dead_sound d.matched, k)
 
--- has a sound room, and first bytes that it can have while it is open
-pub stands_held : {room text : List ℕ} {kept : ℕ} {s : Standing} → Bytes text → Stands room text kept s → StandsHeld s → Sound room × OpenText room (take kept text)
-stands_held {kept = k} g (stand.accepted a) h = (accepted_sound a, inr (prefix_kept k (accepted_kept g a)))
-stands_held {kept = k} g (stand.unfinished s a d) h = (s, inr (prefix_kept k d))
-stands_held g (stand.dead d k) h = (dead_sound d.matched, k)
-stands_held g (stand.lost n) h = absurd h
+-- a byte after a text leaves it
+pub text_first : (text : List ℕ) (key : ℕ) → take (length text) (text ++ (key ∷ [])) ≡ text
+text_first text key = take-append-le (length text) text (key ∷ []) (omega arith) ∙ take_all (length text) text (omega arith)
+
+module _ {room text : List ℕ} where
+  -- the text as it is
+  pub text_held : {s : Standing} → Bytes text → Stands room text (length text) (Some s) → Sound room × OpenText room text
+  text_held g u = rw (take_all (length text) text (omega arith)) at (stands_held g u)
+
+  pub text_lost : Stands room text (length text) None → Sound room → OpenText room text → ⊥
+  text_lost (stand.lost n) s k = n s (rw (take_all (length text) text (omega arith)) k)
 
 -- ---- the open field
 
 -- it is one of the form's
 pub inside : {rooms form : List ℕ} {f : ℕ} → OtherFields rooms form f → f < field_limit
 inside b = omega (arith, b.is_open, b.fields.few)
-
-module _ {rooms form : List ℕ} {f : ℕ} (b : OtherFields rooms form f) (p : Plain form f) (known : (i : ℕ) → get_or form i 0 < byte_values) where
-  -- the text of the field is as long as the form says
-  long : length (text_of form f) ≡ length_of form f
-  long = text_length form f b.lent.form_long (inside b) p.short
-
-  whole : take (length_of form f) (text_of form f) ≡ text_of form f
-  whole = take_all (length_of form f) (text_of form f) (omega (arith, long))
-
-  -- and is what a byte after it leaves
-  pub text_first : (key : ℕ) → take (length_of form f) (text_of form f ++ (key ∷ [])) ≡ text_of form f
-  text_first key = take-append-le (length_of form f) (text_of form f) (key ∷ []) (omega (arith, long)) ∙ whole
-
-  -- the field as it is
-  pub text_held : {s : Standing} → Stands (field_room rooms f) (text_of form f) (length_of form f) s → StandsHeld s → Sound (field_room rooms f) × OpenText (field_room rooms f) (text_of form f)
-  text_held u h = rw whole at (stands_held (text_bytes form f known) u h)
-
-  pub text_lost : Stands (field_room rooms f) (text_of form f) (length_of form f) Standing.Lost → Sound (field_room rooms f) × OpenText (field_room rooms f) (text_of form f) → ⊥
-  text_lost (stand.lost n) h = n h.0 (rw whole h.1)

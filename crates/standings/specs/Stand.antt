@@ -1,21 +1,20 @@
 -- How a text stands before a room, where its first `kept` bytes are those of an open field.
 --   Stands room text kept: by one match of the text
 --   OtherFields rooms form f: what it asks of the fields other than f, the open one
---   TextJoined form typed f key: the text of the field f and a byte after it
-use Rattle.std.specs.Prelude.{ℕ, ◌+◌, ◌<◌, ◌≤◌, ◌≡◌, List, length, get_or, take}
+use Rattle.std.specs.Prelude.{ℕ, ◌+◌, ◌<◌, ◌≤◌, ◌≡◌, List, Option, Some, None, take}
 use Rattle.scope.specs.Machines.Room.{Sound}
 use Rattle.entry_form.specs.Text.{field_room, IsAccepted, IsDead}
-use Rattle.entry_form.specs.EntryForm.{field_limit, text_limit, count_of, closed_of, length_of, entry_byte, Fields, DeskLent}
+use Rattle.entry_form.specs.EntryForm.{field_limit, count_of, closed_of, Fields, DeskLent}
 use Rattle.entry_form.specs.ValidForm.{Empty, OpenText, ClosedField}
 use Rattle.standings.specs.declared.Standing.{Standing}
 
--- a text with which nothing is wrong is Accepted, Unfinished or Dead, as matching says; Lost, if the field could not have had its first bytes
+-- a text with which nothing is wrong is Accepted, Unfinished or Dead, as matching says; there is no standing if the field could not have had its first bytes
 module _ (room text : List ℕ) (kept : ℕ) where
-  pub data Stands : Standing → Type 0 where
-    accepted : IsAccepted room text → Stands Standing.Accepted
-    unfinished : Sound room → (IsAccepted room text → ⊥) → (IsDead room text → ⊥) → Stands Standing.Unfinished
-    dead : IsDead room text → OpenText room (take kept text) → Stands Standing.Dead
-    lost : (Sound room → OpenText room (take kept text) → ⊥) → Stands Standing.Lost
+  pub data Stands : Option Standing → Type 0 where
+    accepted : IsAccepted room text → Stands (Some Standing.Accepted)
+    unfinished : Sound room → (IsAccepted room text → ⊥) → (IsDead room text → ⊥) → Stands (Some Standing.Unfinished)
+    dead : IsDead room text → OpenText room (take kept text) → Stands (Some Standing.Dead)
+    lost : (Sound room → OpenText room (take kept text) → ⊥) → Stands None
 
 -- the fields before f are filled, those after it empty, and the machines of these sound
 pub record OtherFields (rooms form : List ℕ) (f : ℕ) : Type 0 where
@@ -26,9 +25,3 @@ pub record OtherFields (rooms form : List ℕ) (f : ℕ) : Type 0 where
   pub closed : (g : ℕ) → g < f → ClosedField rooms form g
   pub later : (g : ℕ) → g < field_limit → f + 1 ≤ g → Empty form g
   pub sound : (g : ℕ) → g < count_of form → f + 1 ≤ g → Sound (field_room rooms g)
-
--- a text and a byte after it, in an array
-pub record TextJoined (form typed : List ℕ) (f key : ℕ) : Type 0 where
-  pub size : length typed ≡ text_limit + 1
-  pub begin : (i : ℕ) → i < length_of form f → get_or typed i 0 ≡ entry_byte form f i
-  pub last : get_or typed (length_of form f) 0 ≡ key

@@ -6,21 +6,22 @@
 --   takes_none, takes_join: no byte more, and two blocks
 --   takes_end, takes_first, takes_second: one byte, by what it is and to which line it belongs
 --   takes_over: nothing is taken once both lines are ended
---   takes_more, takes_rest, takes_whole: a block that is taken up to its byte i: one byte more, none more, and no more bytes
+--   takes_more, takes_whole: a block that is taken up to its byte i: one byte more, and no more bytes
 --   takes_one: the answer and the buffers are determined
 use Prim.Native.Nat.{ℕ, suc, ◌+◌, ◌≤◌, ◌<◌, min, max}
 use mathlib.Core.Path.{◌≡◌, refl, sym, ap, ◌∙◌, subst}
 use mathlib.Core.List.{List, [], ◌∷◌, ◌++◌, append-nil, append_assoc}
 use native.Mathlib.Omega.{arith}
 use native.Mathlib.Numerals.{add-one}
-use lib.ListN.{length, take, drop, set, get_or, length-append, length-set, take-append-drop}
+use lib.ListN.{length, take, set, get_or, length-append, length-set}
 use lib.Seq.{take_all, take-suc, take-suc-set, take-append-le, get_or-set_other, get_or-take}
 use Rattle.scope.specs.Limits.{pattern_limit}
 use Rattle.scope.specs.Operations.Buffers.{TailKept}
 use Rattle.scope.specs.Lines.{first_line, second_line}
 use Rattle.scope.proofs.Operations.Buffers.{tail_one}
+use Rattle.take_lines.specs.declared.Line.{Line}
 use Rattle.take_lines.specs.declared.Taking.{Taking}
-use Rattle.take_lines.specs.Taking.{line_ends, Held, Grown, GrownBy, Taken, TakesBlock}
+use Rattle.take_lines.specs.Taking.{line_ends, ended, Held, Grown, GrownBy, Taken, TakesBlock}
 use Rattle.take_lines.proofs.Ending.{ends_join, ends_end, ends_byte, first_over, first_end, first_byte, second_before, second_over, second_end, second_byte}
 
 -- ---- one line
@@ -79,7 +80,7 @@ kept_dropped b n n' l many e =
 
 -- ---- both lines
 
-pub taken_begin : (l r : List ℕ) → Taken [] (record { line = 0; first = 0; second = 0 }) l r
+pub taken_begin : (l r : List ℕ) → Taken [] (record { line = Line.First; first = 0; second = 0 }) l r
 unfolding line_ends first_line second_line
 taken_begin l r = record { line = refl; first = record { count = refl; bytes = refl }; second = record { count = refl; bytes = refl } }
 
@@ -99,41 +100,44 @@ takes_join {u} {v} {t} {p} {q} {a} {b} {c} {d} {e} {f} x y =
       taken = λ s h. subst (λ (w : List ℕ). Taken w q c f) (append_assoc s u v) (y.taken (s ++ u) (x.taken s h));
     }
 
-pub takes_end : (b : ℕ) (t : Taking) (l r : List ℕ) → b ≡ 0x0A → t.line < 2 → TakesBlock (b ∷ []) t (record { line = t.line + 1; first = t.first; second = t.second }) l l r r
-takes_end b t l r e few =
+pub takes_end : (b : ℕ) (t : Taking) (n : Line) (l r : List ℕ) → b ≡ 0x0A → ended n ≡ min (ended t.line + 1) 2
+    → TakesBlock (b ∷ []) t (record { line = n; first = t.first; second = t.second }) l l r r
+takes_end b t n l r e next =
     record {
       left_grown = grown_none t.first l;
       right_grown = grown_none t.second r;
       taken = λ s h.
           record {
-            line = omega (arith, h.line, ends_end s b e);
+            line = omega (arith, next, h.line, ends_end s b e);
             first = rw (first_end s b e) h.first;
             second = rw (second_end s b e) h.second;
           };
     }
 
-pub takes_first : (b n : ℕ) (t : Taking) {l l' : List ℕ} (r : List ℕ) → (b ≡ 0x0A → ⊥) → t.line ≡ 0 → GrownBy b t.first n l l'
-    → TakesBlock (b ∷ []) t (record { line = 0; first = n; second = t.second }) l l' r r
-takes_first b n t {l} {l'} r e none k =
+pub takes_first : (b n : ℕ) (t : Taking) {l l' : List ℕ} (r : List ℕ) → (b ≡ 0x0A → ⊥) → t.line ≡ Line.First → GrownBy b t.first n l l'
+    → TakesBlock (b ∷ []) t (record { line = t.line; first = n; second = t.second }) l l' r r
+takes_first b n t {l} {l'} r e here k =
     record {
       left_grown = k.grown;
       right_grown = grown_none t.second r;
       taken = λ s h.
+          let at : ended t.line ≡ 0 = ap ended here in
           let no_end : line_ends s ≡ 0 = omega (arith, h.line) in
           record {
-            line = omega (arith, ends_byte s b e);
+            line = omega (arith, h.line, ends_byte s b e);
             first = rw (first_byte s b e no_end) (k.held (first_line s) h.first);
             second = rw (second_before s b no_end) h.second;
           };
     }
 
-pub takes_second : (b n : ℕ) (t : Taking) (l : List ℕ) {r r' : List ℕ} → (b ≡ 0x0A → ⊥) → t.line < 2 → (t.line ≡ 0 → ⊥) → GrownBy b t.second n r r'
+pub takes_second : (b n : ℕ) (t : Taking) (l : List ℕ) {r r' : List ℕ} → (b ≡ 0x0A → ⊥) → t.line ≡ Line.Second → GrownBy b t.second n r r'
     → TakesBlock (b ∷ []) t (record { line = t.line; first = t.first; second = n }) l l r r'
-takes_second b n t l {r} {r'} e few some k =
+takes_second b n t l {r} {r'} e here k =
     record {
       left_grown = grown_none t.first l;
       right_grown = k.grown;
       taken = λ s h.
+          let at : ended t.line ≡ 1 = ap ended here in
           let one_end : line_ends s ≡ 1 = omega (arith, h.line) in
           record {
             line = omega (arith, h.line, ends_byte s b e);
@@ -142,17 +146,18 @@ takes_second b n t l {r} {r'} e few some k =
           };
     }
 
-pub takes_over : (v : List ℕ) (t : Taking) (l r : List ℕ) → 2 ≤ t.line → TakesBlock v t t l l r r
-takes_over v t l r over =
+pub takes_over : (b : ℕ) (t : Taking) (l r : List ℕ) → t.line ≡ Line.Further → TakesBlock (b ∷ []) t t l l r r
+takes_over b t l r here =
     record {
       left_grown = grown_none t.first l;
       right_grown = grown_none t.second r;
       taken = λ s h.
+          let at : ended t.line ≡ 2 = ap ended here in
           let two : 2 ≤ line_ends s = omega (arith, h.line) in
           record {
-            line = omega (arith, h.line, ends_join s v);
-            first = rw (first_over s v (omega arith)) h.first;
-            second = rw (second_over s v two) h.second;
+            line = omega (arith, h.line, ends_join s (b ∷ []));
+            first = rw (first_over s (b ∷ []) (omega arith)) h.first;
+            second = rw (second_over s (b ∷ []) two) h.second;
           };
     }
 
@@ -161,9 +166,6 @@ takes_over v t l r over =
 module _ {t p : Taking} {a b d e : List ℕ} (block : List ℕ) (i : ℕ) (x : TakesBlock (take i block) t p a b d e) where
   pub takes_more : {q : Taking} {c f : List ℕ} → i < length block → TakesBlock (get_or block i 0 ∷ []) p q b c e f → TakesBlock (take (i + 1) block) t q a c d f
   takes_more h y = rw (add-one i, take-suc block i 0) (takes_join x y)
-
-  pub takes_rest : 2 ≤ p.line → TakesBlock block t p a b d e
-  takes_rest over = subst (λ (u : List ℕ). TakesBlock u t p a b d e) (take-append-drop i block) (takes_join x (takes_over (drop i block) p b e over))
 
   pub takes_whole : length block ≤ i → TakesBlock block t p a b d e
   takes_whole h = subst (λ (u : List ℕ). TakesBlock u t p a b d e) (take_all i block h) x
@@ -174,6 +176,18 @@ held_one : {s a b c : List ℕ} {m n : ℕ} → Held s m b → Held s n c → Ta
 held_one {s} {a} {b} {c} {m} {n} x y p q =
     let same : m ≡ n = x.count ∙ sym y.count in (same, tail_one p (rw same q) (λ i h. sym (get_or-take (min m pattern_limit) b i 0 h) ∙ ap (λ l. get_or l i 0) (x.bytes ∙ sym y.bytes) ∙ get_or-take (min n pattern_limit) c i 0 (omega arith)))
 
+-- a line is known by how many are ended
+ended_one : (l m : Line) → ended l ≡ ended m → l ≡ m
+ended_one Line.First Line.First e = refl
+ended_one Line.Second Line.Second e = refl
+ended_one Line.Further Line.Further e = refl
+ended_one Line.First Line.Second e = absurd (omega arith)
+ended_one Line.First Line.Further e = absurd (omega arith)
+ended_one Line.Second Line.First e = absurd (omega arith)
+ended_one Line.Second Line.Further e = absurd (omega arith)
+ended_one Line.Further Line.First e = absurd (omega arith)
+ended_one Line.Further Line.Second e = absurd (omega arith)
+
 -- after an input there is one answer to a block, and one way to leave the buffers
 pub takes_one : {u s a b c d e f : List ℕ} {t p q : Taking} → Taken s t a d → TakesBlock u t p a b d e → TakesBlock u t q a c d f → (p ≡ q) × (b ≡ c) × (e ≡ f)
 takes_one {s = s} {p = p} {q = q} h x y =
@@ -181,7 +195,7 @@ takes_one {s = s} {p = p} {q = q} h x y =
     let w = y.taken s h in
     let first = held_one v.first w.first x.left_grown.rest y.left_grown.rest in
     let second = held_one v.second w.second x.right_grown.rest y.right_grown.rest in (
-      ap (λ n. record { line = n; first = p.first; second = p.second }) (v.line ∙ sym w.line)
+      ap (λ n. record { line = n; first = p.first; second = p.second }) (ended_one p.line q.line (v.line ∙ sym w.line))
           ∙ ap (λ n. record { line = q.line; first = n; second = p.second }) first.0
           ∙ ap (λ n. record { line = q.line; first = q.first; second = n }) second.0,
       first.1,

@@ -1,5 +1,6 @@
 -- Taking the two lines of an input that comes in blocks. 01: "The program reads two lines from standard input, each ended by 0x0A".
 --   line_ends s: how many line ends s has
+--   ended l: how many of the two lines are ended where l is taken
 --   Held line n buffer: n is the length of the line, or one more than a pattern may have; so much of the line stands in the buffer
 --   Taken input t left right: what is known after the whole input so far
 --   Grown n n' buffer buffer': a line grows, and its buffer is else kept
@@ -9,11 +10,17 @@ use Rattle.std.specs.Prelude.{ℕ, suc, ◌+◌, ◌≤◌, min, ◌≡◌, cond
 use Rattle.scope.specs.Limits.{pattern_limit}
 use Rattle.scope.specs.Operations.Buffers.{TailKept}
 use Rattle.scope.specs.Lines.{first_line, second_line}
+use Rattle.take_lines.specs.declared.Line.{Line}
 use Rattle.take_lines.specs.declared.Taking.{Taking}
 
 unfoldable pub line_ends : List ℕ → ℕ
 line_ends [] = 0
 line_ends (b ∷ s) = cond (eqb b 0x0A) (suc (line_ends s)) (line_ends s)
+
+abbrev pub ended : Line → ℕ
+ended Line.First = 0
+ended Line.Second = 1
+ended Line.Further = 2
 
 -- of an over-long line the first 1,024 bytes are held, and the length is 1,025
 pub record Held (line : List ℕ) (n : ℕ) (buffer : List ℕ) : Type 0 where
@@ -22,7 +29,7 @@ pub record Held (line : List ℕ) (n : ℕ) (buffer : List ℕ) : Type 0 where
 
 -- "an unended last line counts as it stands, a missing line is the empty pattern, and further lines are not read"
 pub record Taken (input : List ℕ) (t : Taking) (left right : List ℕ) : Type 0 where
-  pub line : t.line ≡ min (line_ends input) 2
+  pub line : ended t.line ≡ min (line_ends input) 2
   pub first : Held (first_line input) t.first left
   pub second : Held (second_line input) t.second right
 

@@ -1,45 +1,37 @@
 -- A room made from the fields of a form: first blank but for its head, then part after part.
---   no_number, no_size: bytes with another number or length have no image; judged_not, judged: the answers to that
---   took_none, took_more: no field of a part is read, one more is
+--   judged: whether bytes of the right number and length have the shape, by their filling
+--   FieldsTaken: a part of a room holds the fields; part_taken: where the part was taken
 --   blanked: a room of zeros whose head is written
 --   image_made: what the three parts make of a blank room
 use Prim.Native.Nat.{ℕ, ◌+◌, ◌-◌, ◌*◌, ◌/◌, ◌≤◌, ◌<◌}
-use mathlib.Core.Path.{◌≡◌, refl, sym, ◌∙◌}
-use mathlib.Core.Bool.{false, false≢true}
-use mathlib.Core.Logic.{inl, inr}
+use mathlib.Core.Path.{◌≡◌, sym, ◌∙◌}
+use mathlib.Core.Logic.{◌⊎◌, inl, inr}
 use mathlib.Core.List.{List}
 use native.Mathlib.Nat.{mul-le-mul, mul-one}
 use native.Mathlib.Omega.{arith}
 use borrow.Author.Tests.{eqb-true, eqb-false}
-use borrow.Author.Count.{below_more}
 use lib.Dec.{eqb}
-use lib.ListN.{length, get_or, set, length-set}
-use lib.Seq.{get_or-set_same, get_or-set_other}
+use lib.ListN.{length, get_or, take, drop}
 use Rattle.scope.specs.Limits.{byte_values, classes_at, marks_at, cells_at, ways_at, room_bytes, state_limit, class_limit}
 use Rattle.scope.specs.Machines.Room.{states_of, classes_of}
 use Rattle.scope.specs.Packing.PackedForm.{state_bits}
 use Rattle.scope.specs.Operations.Buffers.{TailKept, Written}
 use Rattle.scope.proofs.Counting.Tests.{split}
 use Rattle.scope.specs.Packing.Laid.{from, Holds, end_bit, classes_bit, marks_bit}
+use borrow.Rule.Slice.PartMut.{put_mid}
+use Rattle.scope.proofs.Packing.PackedForm.{part_length}
 use Rattle.buffers.specs.Stored.{Stored}
+use Rattle.buffers.proofs.OneMore.{stored_part}
 use Rattle.room.specs.Head.{head_byte}
 use Rattle.room.proofs.HeadAndParts.{head_is, head_same}
-use Rattle.packed_bits.specs.PackedFields.{bits_of}
-use Rattle.take_packed.specs.FormImage.{form_bit, Image, Imageless, HeadNames, FormShaped, ShapeJudged, FieldsTaken, BlankRoom}
+use Rattle.packed_bits.specs.PackedFields.{bits_of, Ahead, FieldsFrom}
+use Rattle.take_packed.specs.FormImage.{form_bit, Image, HeadNames, FormShaped, ShapeJudged, BlankRoom}
 use Rattle.packed_bits.proofs.PackedFields.{zeros}
 use Rattle.take_packed.proofs.Bytes.{all_zero, past, form_bit_lem}
 
 -- ---- whether a form has the shape that its head asks for
 
--- a test failed that all bytes with an image pass
-pub judged_not : {n k : ℕ} {f : List ℕ} → Imageless f → ShapeJudged n k f false
-judged_not g = record { yes = λ e. absurd (false≢true e); no = λ e. g }
-
 module _ {n k : ℕ} {f : List ℕ} (h : HeadNames n k f) where
-  -- the number is another
-  pub no_number : (x : ℕ) → Holds (form_bit f) 0 4 x → (x ≡ 1 → ⊥) → Imageless f
-  no_number x e g m i = g (sym e ∙ i.laid.number)
-
   module _ (bits : ℕ) (e : bits ≡ bits_of n k) where
     -- an image has the head that f names
     same_end : (m : List ℕ) → Image f m → bits ≡ end_bit m
@@ -48,11 +40,7 @@ module _ {n k : ℕ} {f : List ℕ} (h : HeadNames n k f) where
         let classes : k ≡ classes_of m = omega (arith, h.some_class, h.classes, i.laid.classes, i.framed.some_class) in
         e ∙ rw (states, classes)
 
-    -- the length is another
-    pub no_size : (length f ≡ (bits + 7) / 8 → ⊥) → Imageless f
-    no_size g m i = g (i.size ∙ rw (same_end m i))
-
-    -- the last test: whether the filling, x, is zero
+    -- whether the filling, x, is zero
     pub judged :
         (x : ℕ) → ((i : ℕ) → get_or f i 0 < byte_values) → length f ≡ (bits + 7) / 8 → Holds (form_bit f) 0 4 1
         → Holds (form_bit f) bits ((bits + 7) / 8 * 8 - bits) x → ShapeJudged n k f (eqb x 0)
@@ -75,22 +63,25 @@ module _ {n k : ℕ} {f : List ℕ} (h : HeadNames n k f) where
 
 -- ---- the parts of a room
 
--- before the first field
-pub took_none : (b : ℕ → ℕ) (p w start : ℕ) (m : List ℕ) → FieldsTaken b p w start 0 m m
-took_none b p w start m = record { size = refl; inside = λ i h. absurd (omega arith); outside = λ i h. refl }
+-- n bytes from `start` on are the fields of w bits of b from the bit p on; the rest is kept
+pub record FieldsTaken (b : ℕ → ℕ) (p w start n : ℕ) (old new : List ℕ) : Type 0 where
+  pub size : length new ≡ length old
+  pub inside : Ahead b p w new start n
+  pub outside : (i : ℕ) → (i < start) ⊎ (start + n ≤ i) → get_or new i 0 ≡ get_or old i 0
 
--- field i is read: its value is x
-pub took_more :
-    {b : ℕ → ℕ} {p w start i : ℕ} {old new : List ℕ} (x : ℕ) → start + i < length old → Holds b (p + i * w) w x → FieldsTaken b p w start i old new
-    → FieldsTaken b p w start (i + 1) old (set new (start + i) x)
-took_more {b} {p} {w} {start} {i} {old} {new} x l h t = record {
-  size = length-set new (start + i) x ∙ t.size;
-  inside = below_more (λ (j : ℕ). Holds b (p + j * w) w (get_or (set new (start + i) x) (start + j) 0)) i
-      (λ j u. t.inside j u ∙ sym (get_or-set_other new (start + i) (start + j) x 0 (λ z. omega arith)))
-      (h ∙ sym (get_or-set_same new (start + i) x 0 (omega (arith, t.size))));
-  outside = λ j u. get_or-set_other new (start + i) j x 0 (λ z. elim u [ inl v ↦ omega arith | inr v ↦ omega arith ])
-      ∙ t.outside j (elim u [ inl v ↦ inl v | inr v ↦ inr (omega arith) ]);
-}
+-- the bytes that the part was taken to
+pub part_taken : {b : ℕ → ℕ} {p w : ℕ} (start k n : ℕ) (old part : List ℕ) → k ≡ n → start + n ≤ length old → length part ≡ length (take k (drop start old))
+    → FieldsFrom b p w part (length part) → FieldsTaken b p w start n old (put_mid start k old part)
+part_taken start k n old part e h size taken =
+    let all : length part ≡ k = size ∙ part_length old start k (omega arith) in
+    let s = stored_part start k old part (omega arith) all in
+    record {
+      size = s.size;
+      inside = λ i l.
+          let at : start + i - start ≡ i = omega arith in
+          taken i (omega arith) ∙ sym (rw at at (s.inside (start + i) (omega arith) (omega arith)));
+      outside = λ i l. s.outside i (elim l [ inl u ↦ inl u | inr u ↦ inr (omega arith) ]);
+    }
 
 -- zeros, and then the head
 pub blanked : {n k : ℕ} {old zero new : List ℕ} → Stored old zero 0 ways_at (λ i. 0) → Written classes_at (head_byte n k) zero new → BlankRoom n k old new

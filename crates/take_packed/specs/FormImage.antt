@@ -6,16 +6,15 @@
 --   HeadNames n k f: the head of f names n states and k classes
 --   FormShaped n k f: besides, f begins with the form's number, has the length of such a form, and zero bits to fill it
 --   ShapeJudged n k f r: f has that shape if r is true, and no image if r is false
---   FieldsTaken b p w start n old new: n bytes from `start` on are the fields of w bits of b from the bit p on; the rest is kept
 --   BlankRoom n k old new: a room with this head, and 0 elsewhere
 --   UnpacksFields r f old new: what `unpack_fields` answers, and what the room holds then
-use Rattle.std.specs.Prelude.{ℕ, ◌+◌, ◌-◌, ◌/◌, ◌≤◌, ◌<◌, ◌≡◌, Bool, true, false, ◌⊎◌, List, length, get_or}
+use Rattle.std.specs.Prelude.{ℕ, ◌+◌, ◌-◌, ◌/◌, ◌≤◌, ◌<◌, ◌≡◌, Bool, true, false, List, length, get_or}
 use Rattle.scope.specs.Limits.{byte_values, class_limit, state_limit, classes_at, ways_at, room_bytes}
 use Rattle.scope.specs.Machines.Room.{states_of, classes_of, SoundTable}
 use Rattle.scope.specs.Packing.PackedForm.{state_bits, fields, FormOf}
 use Rattle.scope.specs.Operations.Buffers.{TailKept}
 use Rattle.scope.specs.Packing.Laid.{bit_of, Holds, Laid, Framed, end_bit}
-use Rattle.packed_bits.specs.PackedFields.{bits_of, Ahead}
+use Rattle.packed_bits.specs.PackedFields.{bits_of}
 
 abbrev pub form_bit : List ℕ → ℕ → ℕ
 form_bit f = bit_of (fields 8 f)
@@ -51,11 +50,6 @@ pub record FormShaped (n k : ℕ) (f : List ℕ) : Type 0 where
 pub record ShapeJudged (n k : ℕ) (f : List ℕ) (r : Bool) : Type 0 where
   pub yes : r ≡ true → FormShaped n k f
   pub no : r ≡ false → Imageless f
-
-pub record FieldsTaken (b : ℕ → ℕ) (p w start n : ℕ) (old new : List ℕ) : Type 0 where
-  pub size : length new ≡ length old
-  pub inside : Ahead b p w new start n
-  pub outside : (i : ℕ) → (i < start) ⊎ (start + n ≤ i) → get_or new i 0 ≡ get_or old i 0
 
 pub record BlankRoom (n k : ℕ) (old new : List ℕ) : Type 0 where
   pub tail : TailKept ways_at old new

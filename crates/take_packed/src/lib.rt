@@ -5,7 +5,8 @@ ghost use Rattle.std.specs.Prelude.{◌+◌, ◌*◌, ◌^◌, ◌≤◌, ◌<�
 ghost use Rattle.scope.specs.Limits.{state_limit, class_limit, ways_at, room_bytes};
 ghost use Rattle.scope.specs.Operations.Buffers.{TailKept};
 ghost use Rattle.scope.specs.Packing.Laid.{Holds};
-ghost use Rattle.take_packed.specs.FormImage.{form_bit, HeadNames, FormShaped, ShapeJudged, FieldsTaken, BlankRoom, Image, UnpacksFields};
+ghost use Rattle.packed_bits.specs.PackedFields.{FieldsFrom};
+ghost use Rattle.take_packed.specs.FormImage.{form_bit, HeadNames, FormShaped, ShapeJudged, BlankRoom, Image, UnpacksFields};
 
 use packed_bits::{
     CLASS_BITS, CLASSES_BIT, FORM_NUMBER, FORM_NUMBER_BITS, MARK_BITS, MARKS_BIT, STATE_BITS,
@@ -16,7 +17,7 @@ use scope::Machine;
 fn byte_at(form: &[u8], i: usize) -> usize
     ensures { Holds (form_bit form.now) (i * 8) 8 result × (result < 256) }
 {
-    if i < form.len() { form[i] as usize } else { 0 }
+    form.get(i).copied().unwrap_or(0) as usize
 }
 
 // The field of `width` bits at the bit p.
@@ -29,72 +30,63 @@ fn take(form: &[u8], p: usize, width: usize) -> usize
     packed_bits::low(two >> (16 - p % 8 - width), width)
 }
 
-// Bytes of a room from `start` on, from the fields of a form at the bit p.
-fn take_part(form: &[u8], room: &mut [u8], p: usize, start: usize, count: usize, width: usize)
-    requires { (start + count ≤ length room.old) × (width ≤ 8) × (p + count * width < 2 ^ 32) }
-    ensures { FieldsTaken (form_bit form.now) p width start count room.old room.new }
+// Takes the bytes from the fields of a form at the bit p.
+fn take_each(form: &[u8], p: usize, width: usize, bytes: &mut [u8])
+    requires { (width ≤ 8) × (p + length bytes.old * width < 2 ^ 32) }
+    ensures { FieldsFrom (form_bit form.now) p width bytes.new (length bytes.new) }
 {
-    let mut at = p;
-    let mut i: usize = 0;
-    while i < count {
-        room[start + i] = take(form, at, width) as u8;
-        at += width;
-        i += 1;
+    for (i, byte) in bytes.iter_mut().enumerate() {
+        *byte = take(form, p + i * width, width) as u8;
     }
 }
 
-// Whether a form that names n states and k classes has the number, the length and the filling of such a form.
-fn has_shape(form: &[u8], n: usize, k: usize) -> bool
-    requires { HeadNames n k form.now }
-    ensures { ShapeJudged n k form.now result }
+// Whether a form that names this head has the number, the length and the filling of such a form.
+fn has_shape(form: &[u8], machine: Machine) -> bool
+    requires { HeadNames machine.states machine.classes form.now }
+    ensures { ShapeJudged machine.states machine.classes form.now result }
 {
-    let bits = packed_bits::form_bits(n, k);
-    let size = (bits + 7) / 8;
-    if form.len() != size {
-        return false;
-    }
-    if take(form, 0, FORM_NUMBER_BITS) != FORM_NUMBER {
-        return false;
-    }
-    take(form, bits, size * 8 - bits) == 0
+    let bits = packed_bits::form_bits(machine);
+    let size = bits.div_ceil(8);
+    form.len() == size
+        && take(form, 0, FORM_NUMBER_BITS) == FORM_NUMBER
+        && take(form, bits, size * 8 - bits) == 0
 }
 
 // A room with this head, and 0 elsewhere.
-fn blank(room: &mut [u8], n: usize, k: usize)
-    requires { (n ≤ state_limit) × (k ≤ class_limit) × (room_bytes ≤ length room.old) }
-    ensures { BlankRoom n k room.old room.new }
+fn blank(room: &mut [u8], machine: Machine)
+    requires { (machine.states ≤ state_limit) × (machine.classes ≤ class_limit) × (room_bytes ≤ length room.old) }
+    ensures { BlankRoom machine.states machine.classes room.old room.new }
 {
     buffers::fill(room, 0, Machine::WAYS_AT, 0);
-    let machine = Machine {
-        states: n,
-        classes: k,
-    };
     room::write_head(room, machine);
 }
 
 // The room whose fields a form has.
-fn take_all(form: &[u8], room: &mut [u8], n: usize, k: usize)
-    requires { FormShaped n k form.now × (room_bytes ≤ length room.old) }
+fn take_all(form: &[u8], room: &mut [u8], machine: Machine)
+    requires { FormShaped machine.states machine.classes form.now × (room_bytes ≤ length room.old) }
     ensures { Image form.now room.new × TailKept ways_at room.old room.new }
 {
-    let cells = packed_bits::used_cells(n, k);
-    blank(room, n, k);
-    take_part(
+    let cells_bit = MARKS_BIT + machine.states * MARK_BITS;
+    let marks_end = Machine::MARKS_AT + machine.states;
+    let cells_end = Machine::CELLS_AT + packed_bits::used_cells(machine);
+    blank(room, machine);
+    take_each(
         form,
-        room,
         CLASSES_BIT,
-        Machine::CLASSES_AT,
-        Machine::BYTES,
         CLASS_BITS,
+        &mut room[Machine::CLASSES_AT..Machine::MARKS_AT],
     );
-    take_part(form, room, MARKS_BIT, Machine::MARKS_AT, n, MARK_BITS);
-    take_part(
+    take_each(
         form,
-        room,
-        MARKS_BIT + n * MARK_BITS,
-        Machine::CELLS_AT,
-        cells,
+        MARKS_BIT,
+        MARK_BITS,
+        &mut room[Machine::MARKS_AT..marks_end],
+    );
+    take_each(
+        form,
+        cells_bit,
         STATE_BITS,
+        &mut room[Machine::CELLS_AT..cells_end],
     );
 }
 
@@ -103,12 +95,13 @@ pub fn unpack_fields(form: &[u8], room: &mut [u8]) -> bool
     requires { room_bytes ≤ length room.old }
     ensures { UnpacksFields result form.now room.old room.new }
 {
-    let n = take(form, FORM_NUMBER_BITS, STATE_BITS) + 1;
-    let k = take(form, FORM_NUMBER_BITS + STATE_BITS, CLASS_BITS) + 1;
-    if has_shape(form, n, k) {
-        take_all(form, room, n, k);
-        true
-    } else {
-        false
+    let machine = Machine {
+        states: take(form, FORM_NUMBER_BITS, STATE_BITS) + 1,
+        classes: take(form, FORM_NUMBER_BITS + STATE_BITS, CLASS_BITS) + 1,
+    };
+    let shaped = has_shape(form, machine);
+    if shaped {
+        take_all(form, room, machine);
     }
+    shaped
 }

@@ -1,15 +1,30 @@
 -- Marks. Of a proposition there is one, so an array of them is determined; like propositions have like marks.
+--   mark_by: the mark by a test
+--   untold: with another answer than Dead nothing is told
 --   mark_one, marks_one: a mark is one; so are the 256
 --   mark_moved, marks_moved: the marks of what holds exactly where another thing does
 --   mark_no, mark_none: what is marked 0 does not hold; what does not hold is marked 0
 use Prim.Native.Nat.{ℕ, ◌<◌}
 use mathlib.Core.Path.{◌≡◌, refl, sym, ◌∙◌}
 use mathlib.Core.Logic.{◌↔◌}
+use mathlib.Core.Bool.{Bool, true, false}
 use mathlib.Core.List.{List}
 use native.Mathlib.Omega.{arith}
 use lib.Seq.{ext_get_or}
+use Rattle.std.specs.Int.{from_bool}
 use Rattle.scope.specs.Limits.{byte_values}
-use Rattle.telling.specs.Expected.{Marked, can, cannot, MarksOf}
+use Rattle.buffers.specs.Stored.{Decides}
+use Rattle.telling.specs.Expected.{Marked, can, cannot, MarksOf, MatchTells, kept}
+use Rattle.scope.specs.Answers.{DEAD}
+
+-- a test marks what it decides
+pub mark_by : {P : Type 0} {b : Bool} → Decides b P → Marked P (from_bool b)
+mark_by {b = true} d = can (d.yes refl)
+mark_by {b = false} d = cannot (d.no refl)
+
+-- with another answer than Dead nothing is told
+pub untold : {room text e : List ℕ} {n i : ℕ} → (n ≡ DEAD → ⊥) → MatchTells room text e e n i
+untold h = kept h refl
 
 -- a proposition has one mark
 pub mark_one : {P : Type 0} {x y : ℕ} → Marked P x → Marked P y → x ≡ y

@@ -3,6 +3,8 @@
 --   Numbering: the bytes below e are numbered by their kinds
 --   KindsPassed, passed_first, passed_same, passed_level, passed_old, passed_new, passed_full, passed_all: the pass, its turns, and where it ends
 --   passed_byte, passed_few: the least bytes so far are bytes that were passed, and so many
+--   known_some, known_none: the first least bytes have one of which P holds, or none
+--   column_part: the column of the first kinds, where only their least bytes were looked at
 --   most_bytes, most_classes: there are at most 256 kinds; for one room at most as many as classes
 --   least_bytes: they are bytes
 --   kind_next, each_kind, kind_before: a byte leads where the least byte of its kind does; so a part of the array that has them all has a byte of each kind; a byte below it is of a smaller kind
@@ -14,14 +16,16 @@ use native.Mathlib.Omega.{arith}
 use native.Mathlib.Decide.{ℕ_discrete}
 use lib.Seq.{get_or-set_same, get_or-set_other, length-take-le, get_or-take}
 use lib.ListN.{length, take, get_or, set, replicate, length-set}
+use Rattle.std.specs.List.{Any}
+use Rattle.std.proofs.lemmas.List.{get_or_default}
 use Rattle.scope.specs.Limits.{byte_values, class_limit, classes_at}
 use Rattle.scope.specs.Machines.Room.{classes_of, class_of, next_of, Below, SoundTable}
 use Rattle.scope.proofs.Counting.Tests.{split}
 use Rattle.scope.proofs.Counting.Lists.{zeros}
-use Rattle.buffers.specs.Numbered.{Found, Came, Numbered}
+use Rattle.buffers.specs.Numbered.{Came, Numbered}
 use Rattle.buffers.proofs.Numbered.{numbered_none, numbered_old, numbered_new, numbered_one, numbered_few, numbered_fewer}
 use Rattle.two_rooms.specs.Side.{both}
-use Rattle.two_rooms.specs.Kinds.{pair_of, stretch, LevelStretch, KindsOf, Kinds, EachKind, Most}
+use Rattle.two_rooms.specs.Kinds.{pair_of, stretch, LevelStretch, KindsOf, Kinds, EachKind, Most, Column}
 
 -- a byte's class is below 64
 pub class_small : (m : List ℕ) (x : ℕ) → SoundTable m → x < byte_values → class_of m x < class_limit
@@ -148,23 +152,43 @@ module _ (a b least : List ℕ) (count last x p : ℕ) (h : x < byte_values) (g 
   pub passed_same : p ≡ last → KindsPassed a b least count last (x + 1)
   passed_same m = rw (← m) (like g.before (omega (arith, g.is_before)) (sym g.classes ∙ sym m))
 
-  -- or those of the kind r
-  pub passed_old : (r : ℕ) → Found (λ i. pair_of a b (get_or least i 0) ≡ p) count r → (r ≡ count → ⊥) → KindsPassed a b least count p (x + 1)
-  passed_old r f n = let l : r < count = omega (arith, f.most) in like (get_or least r 0) (passed_byte g r l) (f.has l)
+  -- or those of the kind i
+  pub passed_old : (i : ℕ) → i < count → pair_of a b (get_or least i 0) ≡ p → KindsPassed a b least count p (x + 1)
+  passed_old i l = like (get_or least i 0) (passed_byte g i l)
 
   -- or is of a new kind
-  pub passed_new : Found (λ i. pair_of a b (get_or least i 0) ≡ p) count count → KindsPassed a b (set least count x) (count + 1) p (x + 1)
+  pub passed_new : ((i : ℕ) → i < count → pair_of a b (get_or least i 0) ≡ p → ⊥) → KindsPassed a b (set least count x) (count + 1) p (x + 1)
   passed_new f = record {
     kind = set g.kind x count;
     kind_long = length-set g.kind x count ∙ g.kind_long;
     least_long = length-set least count x ∙ g.least_long;
     numbered = numbered_new g.numbered (λ z. z) (λ z. get_or (set g.kind x count) z 0) (λ v. get_or (set least count x) v 0) (λ z q. refl) (off count)
         (λ v l. get_or-set_other least count v x 0 (λ q. omega arith)) (at count) (get_or-set_same least count x 0 (omega (arith, g.least_long, passed_few g))) refl
-        (λ v l m. f.none v l (m ∙ sym e));
+        (λ v l m. f v l (m ∙ sym e));
     before = x;
     is_before = refl;
     classes = e;
   }
+
+module _ (P : ℕ → Type 0) (least : List ℕ) {count : ℕ} (h : count ≤ length least) where
+  -- P holds of one of the first least bytes
+  pub known_some : Any P (take count least) → (i : ℕ) × (i < count) × P (get_or least i 0)
+  known_some (i, x, l, e, p) = let k : i < count = omega (arith, length-take-le count least h) in
+      (i, k, rw (← get_or_default least i x 0 (omega arith), ← get_or-take count least i x k, e) p)
+
+  -- or of none
+  pub known_none : (Any P (take count least) → ⊥) → (i : ℕ) → i < count → P (get_or least i 0) → ⊥
+  known_none n i l p = let x = get_or least i 0 in n (i, x, omega (arith, length-take-le count least h), get_or-take count least i x l ∙ get_or_default least i x 0 (omega arith), p)
+
+-- only the least bytes of the kinds are looked at for their column
+pub column_part : (m least : List ℕ) {column : List ℕ} {count : ℕ} → count ≤ length least → Column m (take count least) column (length (take count least)) → Column m least column count
+column_part m least {column} {count} h w =
+    let e = length-take-le count least h in
+    record {
+      size = w.size;
+      inside = λ j l. w.inside j (omega (arith, e)) ∙ ap (λ (x : ℕ). class_of m x) (get_or-take count least j 0 l);
+      outside = λ j l. w.outside j (omega (arith, e));
+    }
 
 module _ (a b least : List ℕ) (count : ℕ) where
   level_on : (d : ℕ) (last x : ℕ) → x + d ≤ byte_values → KindsPassed a b least count last x → LevelStretch a x (x + d) → LevelStretch b x (x + d) → KindsPassed a b least count last (x + d)

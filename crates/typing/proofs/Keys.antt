@@ -1,11 +1,12 @@
 -- What a key answers, where everything but the open field was judged. If its room is sound and its text is one that it can have, the form passes the test, so it
 -- shows an entry that keys give, with the field's own text; the answer to the key is then the answer to that entry.
---   presses_unplain, presses_lost: the form is none that keys can give
---   presses_back, presses_long: the answers to 0x08, and to a byte too many
---   closes, closes_unfinished, closes_dead, closes_lost: the answers to 0x0D, by how the field stands
+--   presses_unplain, lost: the form is none that keys can give
+--   takes_back: the answer to 0x08
+--   closes, closes_unfinished, closes_dead: the answers to 0x0D, by how the field stands
+--   full: the answer to a byte too many
 --   types_accepted, types_unfinished, types_dead, types_lost: the answers to a byte, by how the field stands with it
 use Prim.Native.Nat.{ℕ, ◌+◌, ◌*◌, ◌-◌, ◌≤◌, ◌<◌}
-use mathlib.Core.Path.{◌≡◌, refl, ap, ◌∙◌}
+use mathlib.Core.Path.{◌≡◌, refl, sym, ap, ◌∙◌}
 use mathlib.Core.Logic.{◌⊎◌, inl, inr, ⊎_elim}
 use mathlib.Core.List.{List, [], ◌∷◌, ◌++◌}
 use native.Mathlib.Omega.{arith}
@@ -13,7 +14,9 @@ use native.Mathlib.Decide.{ℕ_discrete}
 use borrow.Author.Tests.{ne_eqb}
 use lib.ListN.{length, get_or, set, take, length-set}
 use lib.Seq.{get_or-set_same, get_or-set_other}
+use Rattle.std.specs.Prelude.{Option, Some, None}
 use Rattle.scope.specs.Answers.{DONE, FORM}
+use Rattle.scope.specs.Bytes.{Bytes}
 use Rattle.scope.specs.Operations.Buffers.{TailKept}
 use Rattle.scope.specs.Limits.{byte_values}
 use Rattle.scope.specs.Machines.Room.{Sound}
@@ -28,7 +31,7 @@ use Rattle.entry_form.proofs.Texts.{text_length, text_bytes, empty_plain}
 use Rattle.standings.specs.declared.Standing.{Standing}
 use Rattle.standings.specs.Stand.{Stands, OtherFields}
 use Rattle.standings.specs.Stand as stand
-use Rattle.standings.proofs.Standings.{accepted_sound, StandsHeld, stands_held, inside, text_first, text_held, text_lost}
+use Rattle.standings.proofs.Standings.{accepted_sound, stands_held, inside, text_first, text_held, text_lost}
 use Rattle.desk_rules.specs.DeskAnswers.{DEAD_BYTE, UNFINISHED_KEY, LENGTH}
 use Rattle.desk_rules.specs.Entry.{Entry, open_text, retyped}
 use Rattle.desk_rules.specs.Show.{Shows}
@@ -72,7 +75,7 @@ module _ {rooms form : List ℕ} {f : ℕ} (b : OtherFields rooms form f) where
   pub presses_unplain : {key : ℕ} → (Plain form f → ⊥) → Presses rooms form form key FORM
   presses_unplain n = refused b.lent (λ s v. n (v.plain f (inside b)))
 
-  pub presses_lost : {key : ℕ} → (Sound (field_room rooms f) → OpenText (field_room rooms f) (text_of form f) → ⊥) → Presses rooms form form key FORM
+  presses_lost : {key : ℕ} → (Sound (field_room rooms f) → OpenText (field_room rooms f) (text_of form f) → ⊥) → Presses rooms form form key FORM
   presses_lost n = refused b.lent (λ s v. n (s f b.is_open) (rw b.at at (v.open_kept (omega (arith, b.at, b.is_open)))))
 
   module _ (p : Plain form f) (known : (i : ℕ) → get_or form i 0 < byte_values) (s : Sound (field_room rooms f)) (k : OpenText (field_room rooms f) (text_of form f)) where
@@ -118,7 +121,7 @@ module _ {rooms form : List ℕ} {f : ℕ} (b : OtherFields rooms form f) where
     size = ap length open_text_lem ∙ text_length form f b.lent.form_long (inside b) p.short
 
     -- 0x08
-    pub presses_back : {form' : List ℕ} → Retyped form form' f (take (length_of form f - 1) (text_of form f)) → Presses rooms form form' BACK DONE
+    presses_back : {form' : List ℕ} → Retyped form form' f (take (length_of form f - 1) (text_of form f)) → Presses rooms form form' BACK DONE
     presses_back r =
         answered b.lent ready (taken_back is_open refl) (rw (size, open_text_lem) (shows_retyped (inside b) r found.given.shows closed_at)) (tail_retyped (inside b) r)
 
@@ -140,7 +143,7 @@ module _ {rooms form : List ℕ} {f : ℕ} (b : OtherFields rooms form f) where
         answered b.lent ready (not_finished is_open refl (λ a. n (rw (closed_at, open_text_lem) at a))) found.given.shows (all_kept form form_bytes)
 
     -- a byte too many
-    pub presses_long : {key : ℕ} → Literal key → length_of form f ≡ text_limit → Presses rooms form form key LENGTH
+    presses_long : {key : ℕ} → Literal key → length_of form f ≡ text_limit → Presses rooms form form key LENGTH
     presses_long l e = answered b.lent ready (too_long is_open l (omega (arith, size))) found.given.shows (all_kept form form_bytes)
 
     -- a byte with which the field is dead
@@ -157,61 +160,82 @@ module _ {rooms form : List ℕ} {f : ℕ} (b : OtherFields rooms form f) where
 
 module _ {rooms form : List ℕ} {f : ℕ} (b : OtherFields rooms form f) (p : Plain form f) (known : (i : ℕ) → get_or form i 0 < byte_values) where
   -- the field as it is
-  abbrev Stood : Standing → Type 0
-  Stood s = Stands (field_room rooms f) (text_of form f) (length_of form f) s
+  abbrev Stood : Option Standing → Type 0
+  Stood s = Stands (field_room rooms f) (text_of form f) (length (text_of form f)) s
+
+  -- where it stands somehow
+  held : {s : Standing} → Stood (Some s) → Sound (field_room rooms f) × OpenText (field_room rooms f) (text_of form f)
+  held u = text_held (text_bytes form f known) u
+
+  -- no keys lead to the field
+  pub lost : {key : ℕ} → Stood None → Presses rooms form form key FORM
+  lost u = presses_lost b (text_lost u)
+
+  -- 0x08
+  pub takes_back : {form' : List ℕ} {s : Standing} → Stood (Some s) → Retyped form form' f (take (length_of form f - 1) (text_of form f)) → Presses rooms form form' BACK DONE
+  takes_back u r = let h = held u in presses_back b p known h.0 h.1 r
 
   -- 0x0D
-  pub closes : Stood Standing.Accepted → Presses rooms form (set form 1 (f + 1)) CLOSE DONE
-  closes u = let h = text_held b p known u tt in presses_closed b p known h.0 h.1 (go u)
+  pub closes : Stood (Some Standing.Accepted) → Presses rooms form (set form 1 (f + 1)) CLOSE DONE
+  closes u = let h = held u in presses_closed b p known h.0 h.1 (go u)
     where
-      go : Stood Standing.Accepted → IsAccepted (field_room rooms f) (text_of form f)
+      go : Stood (Some Standing.Accepted) → IsAccepted (field_room rooms f) (text_of form f)
       go (stand.accepted a) = a
 
-  pub closes_unfinished : Stood Standing.Unfinished → Presses rooms form form CLOSE UNFINISHED_KEY
-  closes_unfinished u = let h = text_held b p known u tt in presses_unfinished b p known h.0 h.1 (go u)
+  pub closes_unfinished : Stood (Some Standing.Unfinished) → Presses rooms form form CLOSE UNFINISHED_KEY
+  closes_unfinished u = let h = held u in presses_unfinished b p known h.0 h.1 (go u)
     where
-      go : Stood Standing.Unfinished → IsAccepted (field_room rooms f) (text_of form f) → ⊥
+      go : Stood (Some Standing.Unfinished) → IsAccepted (field_room rooms f) (text_of form f) → ⊥
       go (stand.unfinished s n d) = n
 
-  pub closes_dead : Stood Standing.Dead → Presses rooms form form CLOSE UNFINISHED_KEY
-  closes_dead u = let h = text_held b p known u tt in presses_unfinished b p known h.0 h.1 (go u)
+  pub closes_dead : Stood (Some Standing.Dead) → Presses rooms form form CLOSE UNFINISHED_KEY
+  closes_dead u = let h = held u in presses_unfinished b p known h.0 h.1 (go u)
     where
-      go : Stood Standing.Dead → IsAccepted (field_room rooms f) (text_of form f) → ⊥
+      go : Stood (Some Standing.Dead) → IsAccepted (field_room rooms f) (text_of form f) → ⊥
       go (stand.dead d k) a = accepted_kept (text_bytes form f known) a d
 
-  pub closes_lost : {key : ℕ} → Stood Standing.Lost → Presses rooms form form key FORM
-  closes_lost u = presses_lost b (λ s k. text_lost b p known u (s, k))
+  module _ {key : ℕ} (l : Literal key) where
+    -- a full field
+    pub full : {s : Standing} → Stood (Some s) → length (text_of form f) ≡ text_limit → Presses rooms form form key LENGTH
+    full u e = let h = held u in presses_long b p known h.0 h.1 l (sym (text_length form f b.lent.form_long (inside b) p.short) ∙ e)
 
-  -- the field with a byte after it
-  module _ {key : ℕ} (byte : key < byte_values) (l : Literal key) (h : length_of form f < text_limit) where
-    abbrev Typed : Standing → Type 0
-    Typed s = Stands (field_room rooms f) (text_of form f ++ (key ∷ [])) (length_of form f) s
+    -- the field with a byte after it
+    module _ (byte : key < byte_values) (h : (length (text_of form f) ≡ text_limit) → ⊥) where
+      abbrev Typed : Option Standing → Type 0
+      Typed s = Stands (field_room rooms f) (text_of form f ++ (key ∷ [])) (length (text_of form f)) s
 
-    -- where it is not lost, neither is the field as it is
-    typed_held : {s : Standing} → Typed s → StandsHeld s → Sound (field_room rooms f) × OpenText (field_room rooms f) (text_of form f)
-    typed_held u h = rw (text_first b p known key) at (stands_held (bytes_append (text_of form f) (key ∷ []) (text_bytes form f known) (byte, tt)) u h)
+      -- there is room for it
+      room_left : length_of form f < text_limit
+      room_left = omega (arith, p.short, text_length form f b.lent.form_long (inside b) p.short)
 
-    module _ {form' : List ℕ} (r : Retyped form form' f (text_of form f ++ (key ∷ []))) where
-      pub types_accepted : Typed Standing.Accepted → Presses rooms form form' key DONE
-      types_accepted u = let k = typed_held u tt in presses_taken b p known k.0 k.1 l h (go u) r
+      typed_bytes : Bytes (text_of form f ++ (key ∷ []))
+      typed_bytes = bytes_append (text_of form f) (key ∷ []) (text_bytes form f known) (byte, tt)
+
+      -- where it stands somehow, the field as it is is one that keys lead to
+      typed_held : {s : Standing} → Typed (Some s) → Sound (field_room rooms f) × OpenText (field_room rooms f) (text_of form f)
+      typed_held u = rw (text_first (text_of form f) key) at (stands_held typed_bytes u)
+
+      module _ {form' : List ℕ} (r : Retyped form form' f (text_of form f ++ (key ∷ []))) where
+        pub types_accepted : Typed (Some Standing.Accepted) → Presses rooms form form' key DONE
+        types_accepted u = let k = typed_held u in presses_taken b p known k.0 k.1 l room_left (go u) r
+          where
+            go : Typed (Some Standing.Accepted) → IsDead (field_room rooms f) (text_of form f ++ (key ∷ [])) → ⊥
+            go (stand.accepted a) = accepted_kept typed_bytes a
+
+        pub types_unfinished : Typed (Some Standing.Unfinished) → Presses rooms form form' key DONE
+        types_unfinished u = let k = typed_held u in presses_taken b p known k.0 k.1 l room_left (go u) r
+          where
+            go : Typed (Some Standing.Unfinished) → IsDead (field_room rooms f) (text_of form f ++ (key ∷ [])) → ⊥
+            go (stand.unfinished s n d) = d
+
+      pub types_dead : Typed (Some Standing.Dead) → Presses rooms form form key DEAD_BYTE
+      types_dead u = let k = typed_held u in presses_dead b p known k.0 k.1 l room_left (go u)
         where
-          go : Typed Standing.Accepted → IsDead (field_room rooms f) (text_of form f ++ (key ∷ [])) → ⊥
-          go (stand.accepted a) = accepted_kept (bytes_append (text_of form f) (key ∷ []) (text_bytes form f known) (byte, tt)) a
+          go : Typed (Some Standing.Dead) → IsDead (field_room rooms f) (text_of form f ++ (key ∷ []))
+          go (stand.dead d k) = d
 
-      pub types_unfinished : Typed Standing.Unfinished → Presses rooms form form' key DONE
-      types_unfinished u = let k = typed_held u tt in presses_taken b p known k.0 k.1 l h (go u) r
+      pub types_lost : Typed None → Presses rooms form form key FORM
+      types_lost u = presses_lost b (go u)
         where
-          go : Typed Standing.Unfinished → IsDead (field_room rooms f) (text_of form f ++ (key ∷ [])) → ⊥
-          go (stand.unfinished s n d) = d
-
-    pub types_dead : Typed Standing.Dead → Presses rooms form form key DEAD_BYTE
-    types_dead u = let k = typed_held u tt in presses_dead b p known k.0 k.1 l h (go u)
-      where
-        go : Typed Standing.Dead → IsDead (field_room rooms f) (text_of form f ++ (key ∷ []))
-        go (stand.dead d k) = d
-
-    pub types_lost : Typed Standing.Lost → Presses rooms form form key FORM
-    types_lost u = presses_lost b (go u)
-      where
-        go : Typed Standing.Lost → Sound (field_room rooms f) → OpenText (field_room rooms f) (text_of form f) → ⊥
-        go (stand.lost n) s k = n s (rw (text_first b p known key) k)
+          go : Typed None → Sound (field_room rooms f) → OpenText (field_room rooms f) (text_of form f) → ⊥
+          go (stand.lost n) s k = n s (rw (text_first (text_of form f) key) k)

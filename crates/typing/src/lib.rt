@@ -1,4 +1,5 @@
 // The keys, on a form in which everything but the open field was judged.
+// A key writes the form, and no longer finds it so afterwards (its field may be closed then): what is asked of it is a `requires`, and no invariant of a struct that holds it.
 #![tactic(auto)]
 
 ghost use Rattle.entry_form.specs.Text as text;
@@ -7,78 +8,65 @@ ghost use Rattle.standings.specs.Stand.{OtherFields};
 ghost use Rattle.desk_rules.specs.DeskAnswers.{pressed_number};
 ghost use Rattle.desk_rules.specs.Press.{Presses};
 
-use desk_rules::Pressed;
-use entry_form::{BACK, CLOSE, LENGTHS_AT, TEXT, valid};
-use standings::Standing;
+use desk_rules::PressRefusal;
+use entry_form::{BACK, CLOSE, TEXT, room_at, text_at, valid};
+use standings::{Standing, of_text, of_typed};
 
 // The key that takes back the last byte.
-fn take_back(rooms: &[u8], form: &mut [u8], f: usize) -> Pressed
+fn take_back(rooms: &[u8], form: &mut [u8], f: usize) -> Result<(), PressRefusal>
     requires { OtherFields rooms.now form.old f × Plain form.old f }
     ensures { Presses rooms.now form.old form.new text.BACK (pressed_number result) }
 {
-    if !standings::is_kept(rooms, form, f) {
-        return Pressed::Form;
-    }
+    of_text(room_at(rooms, f), text_at(form, f)).ok_or(PressRefusal::Form)?;
     retyping::take_last(form, f);
-    Pressed::Done
+    Ok(())
 }
 
 // The key that closes the field.
-fn close(rooms: &[u8], form: &mut [u8], f: usize) -> Pressed
+fn close(rooms: &[u8], form: &mut [u8], f: usize) -> Result<(), PressRefusal>
     requires { OtherFields rooms.now form.old f × Plain form.old f }
     ensures { Presses rooms.now form.old form.new text.CLOSE (pressed_number result) }
 {
-    let standing = standings::of_text(rooms, form, f);
-    match standing {
+    match of_text(room_at(rooms, f), text_at(form, f)).ok_or(PressRefusal::Form)? {
         Standing::Accepted => {
             form[1] = (f + 1) as u8;
-            Pressed::Done
+            Ok(())
         }
-        Standing::Unfinished => Pressed::Unfinished,
-        Standing::Dead => Pressed::Unfinished,
-        Standing::Lost => Pressed::Form,
+        Standing::Unfinished | Standing::Dead => Err(PressRefusal::Unfinished),
     }
 }
 
 // Any other byte.
-fn add(rooms: &[u8], form: &mut [u8], f: usize, key: u8) -> Pressed
+fn add(rooms: &[u8], form: &mut [u8], f: usize, key: u8) -> Result<(), PressRefusal>
     requires { OtherFields rooms.now form.old f × Plain form.old f × text.Literal key }
     ensures { Presses rooms.now form.old form.new key (pressed_number result) }
 {
-    if form[LENGTHS_AT + f] as usize == TEXT {
-        if !standings::is_kept(rooms, form, f) {
-            return Pressed::Form;
-        }
-        return Pressed::Length;
+    let room = room_at(rooms, f);
+    let text = text_at(form, f);
+    if text.len() == TEXT {
+        of_text(room, text).ok_or(PressRefusal::Form)?;
+        return Err(PressRefusal::Length);
     }
-    let standing = standings::of_typed(rooms, form, f, key);
-    match standing {
-        Standing::Accepted => {
+    match of_typed(room, text, key).ok_or(PressRefusal::Form)? {
+        Standing::Accepted | Standing::Unfinished => {
             retyping::append(form, f, key);
-            Pressed::Done
+            Ok(())
         }
-        Standing::Unfinished => {
-            retyping::append(form, f, key);
-            Pressed::Done
-        }
-        Standing::Dead => Pressed::DeadByte,
-        Standing::Lost => Pressed::Form,
+        Standing::Dead => Err(PressRefusal::DeadByte),
     }
 }
 
 // A key for the open field f.
-pub fn press_open(rooms: &[u8], form: &mut [u8], f: usize, key: u8) -> Pressed
+pub fn press_open(rooms: &[u8], form: &mut [u8], f: usize, key: u8) -> Result<(), PressRefusal>
     requires { OtherFields rooms.now form.old f }
     ensures { Presses rooms.now form.old form.new key (pressed_number result) }
 {
     if !valid::is_plain(form, f) {
-        return Pressed::Form;
+        return Err(PressRefusal::Form);
     }
-    if key == BACK {
-        return take_back(rooms, form, f);
+    match key {
+        BACK => take_back(rooms, form, f),
+        CLOSE => close(rooms, form, f),
+        _ => add(rooms, form, f, key),
     }
-    if key == CLOSE {
-        return close(rooms, form, f);
-    }
-    add(rooms, form, f, key)
 }

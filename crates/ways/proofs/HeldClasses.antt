@@ -3,18 +3,19 @@
 --   block_at from t: where the block begins that is tried after t others, the first being `from`
 --   NoBlock, blocks_more, blocks_here, blocks_all: blocks without the class; one more without it, or with it; no block is left
 --   HeldBelow m l n c: the list of the classes below c; held_none, held_skip, held_more, held_all: none; one more that no byte has, or that some byte has; all
---   held_below, held_some: such a class is below k; there is one
+--   held_some: there is one
 use Prim.Native.Nat.{ℕ, ◌+◌, ◌-◌, ◌*◌, ◌/◌, ◌%◌, ◌≤◌, ◌<◌}
 use mathlib.Core.Path.{◌≡◌, sym, ◌∙◌}
 use mathlib.Core.Bool.{Bool, true, false}
 use mathlib.Core.Logic.{inl, inr}
 use mathlib.Core.List.{List}
+use Rattle.std.specs.Prelude.{None, Some}
 use native.Mathlib.Omega.{arith}
 use native.Mathlib.Decide.{ℕ_discrete}
 use lib.ListN.{length, get_or, set, length-set}
 use lib.Seq.{get_or-set_same, get_or-set_other}
 use Rattle.scope.specs.Limits.{byte_values, class_limit, classes_at, marks_at}
-use Rattle.scope.specs.Machines.Room.{classes_of, class_of, Below, SoundTable}
+use Rattle.scope.specs.Machines.Room.{classes_of, class_of, SoundTable}
 use Rattle.scope.proofs.Counting.Tests.{split}
 use Rattle.buffers.specs.Stored.{Decides}
 use Rattle.buffers.proofs.OneMore.{holds, fails}
@@ -54,19 +55,17 @@ module _ {m : List ℕ} {c : ℕ} (from t : ℕ) where
   blocks_more n o s h = elim (split s t) [ inl k ↦ n s k | inr k ↦ (let e : s ≡ t = omega arith in rw e o) ]
 
   -- or with it
-  pub blocks_here : Occurs m (block_at from t) (block_at from t + block) c → BlockFound m c ((from + t) % blocks)
+  pub blocks_here : Occurs m (block_at from t) (block_at from t + block) c → BlockFound m c (Some ((from + t) % blocks))
   blocks_here a = record {
-    inside = omega arith;
-    found = λ l. record { place = a.place; high = omega (arith, a.high); low = omega (arith, a.low); is = a.is };
-    none = λ l. absurd (omega arith);
+    found = (omega arith, record { place = a.place; high = omega (arith, a.high); low = omega (arith, a.low); is = a.is });
+    none = λ e. absurd (cc);
   }
 
   -- no block is left: each was tried
-  pub blocks_all : NoBlock m from t c → blocks ≤ t → BlockFound m c blocks
+  pub blocks_all : NoBlock m from t c → blocks ≤ t → BlockFound m c None
   blocks_all n h = record {
-    inside = omega arith;
-    found = λ l. absurd (omega arith);
-    none = λ l a. (let p = (a.place - classes_at) / block in let s = (p + (blocks - from % blocks)) % blocks in
+    found = tt;
+    none = λ e a. (let p = (a.place - classes_at) / block in let s = (p + (blocks - from % blocks)) % blocks in
         n s (omega arith) (record { place = a.place; high = omega (arith, a.high, a.low); low = omega (arith, a.high, a.low); is = a.is }));
   }
 
@@ -123,13 +122,10 @@ module _ {m l : List ℕ} {n c : ℕ} (r : HeldBelow m l n c) where
   held_all s e = record {
     size = r.size;
     few = omega (arith, r.few, s.few_classes);
+    below = λ i h g. (let (b, x, z) = r.byte i h in rw (← z) (s.classes (classes_at + b) (omega arith) (omega arith)));
     byte = r.byte;
     all = λ b h. r.all b h (rw e (s.classes (classes_at + b) (omega arith) (omega arith)));
   }
-
--- such a class is below k
-pub held_below : {m l : List ℕ} {n : ℕ} → SoundTable m → HeldClasses m l n → Below l 0 n (classes_of m)
-held_below s h i k g = let (b, x, e) = h.byte i k in rw (← e) (s.classes (classes_at + b) (omega arith) (omega arith))
 
 -- there is one: that of the byte 0
 pub held_some : {m l : List ℕ} {n : ℕ} → HeldClasses m l n → 0 < n

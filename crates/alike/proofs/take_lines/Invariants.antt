@@ -1,10 +1,7 @@
--- At every block what was taken is right for all blocks before it; the number of reads that may come falls. Each way out is one way to stop.
-use Prim.Native.Nat.{◌-◌, ◌<◌}
-use Rattle.alike.specs.Input.{Lines, most_reads}
+-- At every block what was taken is right for all blocks before it, and so many reads there were. Each way out is one way to stop.
+use Rattle.alike.specs.Input.{Lines}
+use mathlib.Core.Path.{◌≡◌}
 use Rattle.alike.proofs.take_lines.Given as goal
 
-abbrev pub invariant-loop-taking : goal.invariant-loop-taking
-invariant-loop-taking l = Lines l.taking l.left l.right × (l.reads < most_reads)
-
-abbrev pub decreases-loop-taking : goal.decreases-loop-taking
-decreases-loop-taking l = most_reads - l.reads
+abbrev pub invariant-loop-reads : goal.invariant-loop-reads
+invariant-loop-reads l = Lines l.reading.taking l.left l.right × (l.reading.reads ≡ l.reads)

@@ -1,10 +1,6 @@
--- The numbers of the first t states are stored, where they are below count.
-use Prim.Native.Nat.{◌-◌, ◌≤◌}
+-- The numbers of the states so far are stored.
 use Rattle.arrivals.specs.Swept.{Numbers}
 use Rattle.arrivals.proofs.numbers.Given as goal
 
-abbrev pub invariant-loop-t : goal.invariant-loop-t
-invariant-loop-t l = (l.t ≤ l.n) × Numbers l.part l.number l.into l.t l.count
-
-abbrev pub decreases-loop-t : goal.decreases-loop-t
-decreases-loop-t l = l.n - l.t
+abbrev pub invariant-loop-state : goal.invariant-loop-state
+invariant-loop-state l = Numbers l.part l.number l.into l.state

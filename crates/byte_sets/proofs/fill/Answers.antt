@@ -5,19 +5,20 @@ use Rattle.byte_sets.proofs.Filling.{filling_all, filling_some, filling_room, fi
 use Rattle.byte_sets.proofs.fill.Goals as goal
 
 pub loop-at-init : goal.loop-at-init
-loop-at-init c = (refl, filling_all _ c.next_leaf-at.ensures)
+loop-at-init c = (refl, filling_all _)
 
-pub single-requires-clause-some : goal.single-requires-clause-some
-single-requires-clause-some c = filling_some c.loop-at.invariant.1 c.requires.0 (search rules)
+pub single-from-requires-clause-some : goal.single-from-requires-clause-some
+single-from-requires-clause-some c = let (on, inside, next) = c.in-Some.ensures in filling_some (c.loop-at.invariant.1 _ next) c.requires.0 inside
 
-pub single-requires-clause-k_lt_position_limit : goal.single-requires-clause-k_lt_position_limit
-single-requires-clause-k_lt_position_limit c = (filling_room c.loop-at.invariant.1 c.requires.0 (search rules), search rules)
+pub single-from-requires-clause-k_lt_position_limit : goal.single-from-requires-clause-k_lt_position_limit
+single-from-requires-clause-k_lt_position_limit c =
+    let (on, inside, next) = c.in-Some.ensures in (filling_room (c.loop-at.invariant.1 _ next) c.requires.0 inside, search rules)
 
 pub overflow_add-k : goal.overflow_add-k
-overflow_add-k c = omega (arith, filling_room c.loop-at.invariant.1 c.requires.0 (search rules))
+overflow_add-k c = let (on, inside, next) = c.in-Some.ensures in omega (arith, filling_room (c.loop-at.invariant.1 _ next) c.requires.0 inside)
 
 pub loop-at-preserved : goal.loop-at-preserved
-loop-at-preserved c = (search rules, filling_more c.loop-at.invariant.1 (search rules) c.single.ensures c.next_leaf-at-in-loop-at.ensures)
+loop-at-preserved c = let (on, inside, next) = c.in-Some.ensures in (search rules, filling_more (c.loop-at.invariant.1 _ next) inside c.single-from.ensures)
 
 pub returns : goal.returns
-returns c = filling_none c.loop-at.invariant.1 (search rules)
+returns c = filling_none (c.loop-at.invariant.1 _ c.in_default.ensures) (omega arith)

@@ -1,20 +1,15 @@
+use mathlib.Core.Path.{◌≡◌, refl}
 use native.Mathlib.Omega.{arith}
 use borrow.Author.Rules.{rules}
-use borrow.Author.Count.{below_more}
-use Rattle.buffers.proofs.OneMore.{holds, fails}
+use borrow.Author.Tests.{tests}
+use Rattle.std.proofs.lemmas.Iterator.{cases_from_all, YieldsList-from_range}
+use Rattle.smallest_plan.specs.Smallest.{led}
+use Rattle.class_merging.proofs.Chains.{all_below}
 use Rattle.class_merging.proofs.are_alike.Goals as goal
 
-pub loop-q-init : goal.loop-q-init
-loop-q-init c = (search rules, λ j h. absurd (omega arith))
-
-pub returns-then-into-x : goal.returns-then-into-x
-returns-then-into-x c = fails (λ f. c.if-into-x.true (rw c.head-k.ensures.1 (f c.loop-q.q c.loop-q-test.true)))
-
-pub loop-q-preserved : goal.loop-q-preserved
-loop-q-preserved c = (
-  search rules,
-  below_more _ _ c.loop-q.invariant.1 (rw c.head-k.ensures.1 at c.if-into-x.false),
-)
-
 pub returns : goal.returns
-returns c = holds (λ j h. c.loop-q.invariant.1 j (omega arith))
+returns c =
+    let a = c.args.rows.now.room in
+    let s = c.args.rows.now.states.now in
+    all_below _ s.count (cases_from_all _ _ _ (λ q. led a s q c.args.u ≡ led a s q c.args.v) (λ q. led a s q c.args.u ≡ led a s q c.args.v → ⊥) c.all.ensures.ran
+    (YieldsList-from_range 0 s.count s.count refl (omega arith)) (λ q f k. search (rules, tests)) (λ q f k. search (rules, tests)))

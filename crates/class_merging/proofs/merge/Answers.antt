@@ -1,70 +1,48 @@
+-- Leaders are columns of the room, so there are no more of them than the room has classes.
 use Prim.Native.Nat.{◌+◌, ◌≤◌, ◌<◌}
-use mathlib.Core.Path.{◌≡◌}
 use native.Mathlib.Omega.{arith}
-use borrow.Author.Rules.{rules}
 use lib.ListN.{get_or}
+use Rattle.std.proofs.lemmas.List.{length-take, get_or-take}
 use Rattle.scope.specs.Limits.{byte_values, class_limit}
+use Rattle.scope.specs.Machines.Room.{classes_of}
 use Rattle.class_merging.specs.Merged.{Distinct}
-use Rattle.class_merging.proofs.Merged.{merged_none, merged_inside, merged_few, merged_old, merged_new}
+use Rattle.class_merging.proofs.Chains.{all_front}
+use Rattle.class_merging.proofs.Merged.{merged_inside, merged_few, merged_old, merged_new}
 use Rattle.class_merging.proofs.merge.Goals as goal
-use Rattle.class_merging.proofs.merge.Goals.{else-c-count, then-c-count}
+use Rattle.class_merging.proofs.merge.Goals.{In-loop-u, in-Some, in_default}
 
-pub loop-j-init : goal.loop-j-init
-loop-j-init c = (search rules, merged_none _ _ _ _ _ _ _ c.requires.sort_len.0 c.requires.sort_len.1)
+few : (c : In-loop-u) → c.loop-u.count ≤ class_limit
+few c = omega (arith, merged_few c.loop-u.invariant (omega arith) c.requires.distinct.1, c.requires.states_in.sound.few_classes)
 
-pub bounds-column-j : goal.bounds-column-j
-bounds-column-j c = omega (arith, c.requires.kinds_le_byte_values.0, c.loop-j-test.true)
+pub shared_ref_as_front-find : goal.shared_ref_as_front-find
+shared_ref_as_front-find c = omega (arith, few (goal.at.shared_ref_as_front-find c).In-loop-u)
 
-pub find-c-requires : goal.find-c-requires
-find-c-requires c =
-    let v = c.loop-j.invariant in
-    let b = c.requires.kinds_le_byte_values in
-    record {
-      states_in = c.requires.states_in;
-      k_le_byte_values = (omega (arith, merged_few v.1 v.0 b.1, c.requires.states_in.sound.few_classes), merged_inside v.1 v.0 b.1, b.1 c.loop-j.j c.loop-j-test.true (omega arith));
-    }
+pub find-requires-clause-columns : goal.find-requires-clause-columns
+find-requires-clause-columns c =
+    let v = c.loop-u.invariant in
+    rw (c.new-rows.ensures.0) (all_front (λ u. u < classes_of c.args.room.now) _ _ (omega (arith, few (goal.at.find-requires-clause-columns c).In-loop-u, v.leader_size))
+    (λ k h. merged_inside v (omega arith) c.requires.distinct.1 k h (omega arith)))
 
-pub overflow_cast-sort : goal.overflow_cast-sort
-overflow_cast-sort c =
-    let v = c.loop-j.invariant in
-    let b = c.requires.kinds_le_byte_values in
-    omega (arith, c.find-c.ensures.most, merged_few v.1 v.0 b.1, c.requires.states_in.sound.few_classes)
+pub overflow_cast-sort-in_default : goal.overflow_cast-sort-in_default
+overflow_cast-sort-in_default c = omega (arith, few (goal.at.overflow_cast-sort-in_default c).In-loop-u)
 
-pub overflow_cast-sort-in-loop-j : goal.overflow_cast-sort-in-loop-j
-overflow_cast-sort-in-loop-j c =
-    omega (arith, c.requires.kinds_le_byte_values.1 c.loop-j.j c.loop-j-test.true (omega arith), c.requires.states_in.sound.few_classes)
+pub bounds-classes-count : goal.bounds-classes-count
+bounds-classes-count c = omega (arith, few (goal.at.bounds-classes-count c).In-loop-u)
 
-pub bounds-sort-u : goal.bounds-sort-u
-bounds-sort-u c =
-    omega (arith, c.requires.kinds_le_byte_values.1 c.loop-j.j c.loop-j-test.true (omega arith), c.requires.states_in.sound.few_classes)
-
-pub bounds-leader-count : goal.bounds-leader-count
-bounds-leader-count c =
-    let v = c.loop-j.invariant in
-    let b = c.requires.kinds_le_byte_values in
-    omega (arith, merged_few v.1 v.0 b.1, c.requires.states_in.sound.few_classes)
-
-pub overflow_add-count : goal.overflow_add-count
-overflow_add-count c =
-    let v = c.loop-j.invariant in
-    let b = c.requires.kinds_le_byte_values in
-    omega (arith, merged_few v.1 v.0 b.1, c.requires.states_in.sound.few_classes)
-
-pub loop-j-preserved : goal.loop-j-preserved
-loop-j-preserved c =
-    let v = c.loop-j.invariant in
-    let b = c.requires.kinds_le_byte_values in
-    let u : get_or c.args.column.now c.loop-j.j 0 < byte_values = omega (arith, b.1 c.loop-j.j c.loop-j-test.true (omega arith), c.requires.states_in.sound.few_classes) in
-    let few : c.loop-j.count ≤ class_limit = omega (arith, merged_few v.1 v.0 b.1, c.requires.states_in.sound.few_classes) in
-    let f = c.find-c.ensures in
-    let l = c.loop-j-test.true in
-    let d : Distinct c.args.column.now (c.loop-j.j + 1) = λ i j g. b.2 i j (omega (arith, g, l)) in (
-      search rules,
-      elim c.if-c-count.branch [
-        | then-c-count w ↦ rw (w.leader-is, w.count-is) (merged_new u d v.1 f w.if-c-count.true (omega (arith, few)))
-        | else-c-count w ↦ rw (w.leader-is, w.count-is) (merged_old u d v.1 f (omega (arith, f.most, w.if-c-count.false)))
-      ],
-    )
-
-pub returns : goal.returns
-returns c = let e : c.loop-j.j ≡ c.args.kinds = omega arith in rw e at c.loop-j.invariant.1
+pub loop-u-preserved : goal.loop-u-preserved
+loop-u-preserved c =
+    let v = c.loop-u.invariant in
+    let l = c.loop-u-test.true in
+    let n = c.loop-u.count in
+    let leader = c.loop-u.classes.leader in
+    let few : n ≤ class_limit = few (goal.at.loop-u-preserved c).In-loop-u in
+    let d : Distinct c.args.columns.now (c.loop-u.u-index + 1) = λ i j g. c.requires.distinct.2 i j (omega arith) in
+    let u : get_or c.args.columns.now c.loop-u.u-index 0 < byte_values = omega (arith, c.requires.distinct.1 c.loop-u.u-index l (omega arith), c.requires.states_in.sound.few_classes) in
+    elim c.match-find.branch [
+      | in-Some w ↦ (let f = rw (c.new-rows.ensures.0, c.new-rows.ensures.1) at (w.in-Some.ensures) in
+          let h : w.in-Some.c < n = omega (arith, f.0, length-take n leader) in
+          rw (w.sort-is, w.classes-is, w.count-is) (merged_old u d v w.in-Some.c h (rw (get_or-take n leader w.in-Some.c 0 h) at (f.1))))
+      | in_default w ↦ (let f = rw (c.new-rows.ensures.0, c.new-rows.ensures.1) at (w.in_default.ensures) in
+          rw (w.sort-is, w.classes-is, w.count-is) (merged_new u d v (omega arith)
+          (λ i h g. f i (omega (arith, length-take n leader, v.leader_size)) (rw (get_or-take n leader i 0 h) g))))
+    ]

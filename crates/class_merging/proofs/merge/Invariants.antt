@@ -1,10 +1,6 @@
--- The kinds before j are merged: `Merged`.
-use Prim.Native.Nat.{◌-◌, ◌≤◌}
+-- The kinds so far are merged: `Merged`.
 use Rattle.class_merging.specs.Merged.{Merged}
 use Rattle.class_merging.proofs.merge.Given as goal
 
-abbrev pub invariant-loop-j : goal.invariant-loop-j
-invariant-loop-j l = (l.j ≤ l.kinds) × Merged l.from l.order l.into l.column l.sort l.leader l.n l.count l.j
-
-abbrev pub decreases-loop-j : goal.decreases-loop-j
-decreases-loop-j l = l.kinds - l.j
+abbrev pub invariant-loop-u : goal.invariant-loop-u
+invariant-loop-u l = Merged l.room l.states l.columns l.sort l.classes.leader l.count l.u-index

@@ -1,67 +1,39 @@
 -- The starts lie in one part, or there is a first round after which they are not together, and so many bytes are spelled.
-use mathlib.Core.Path.{refl}
+use mathlib.Core.Path.{◌≡◌}
 use native.Mathlib.Omega.{arith}
+use Rattle.scope.specs.Machines.Room.{states_of}
+use Rattle.two_rooms.specs.Side.{both}
 use Rattle.two_rooms.proofs.ByKind.{most_bytes}
-use Rattle.two_rooms.proofs.Rooms.{side_both}
-use Rattle.compare.proofs.Results.{answer_same, answer_apart, answer_spells, answer_fits, answer_separated}
+use Rattle.refinement.specs.Refined.{Refined}
+use Rattle.compare.proofs.Results.{answer_same, answer_fits, answer_separated}
 use Rattle.compare.proofs.refined.Goals as goal
+use Rattle.compare.proofs.refined.Goals.{After-head-s}
 
-pub overflow_add-n : goal.overflow_add-n
-overflow_add-n c = let s = c.requires.sound in omega (arith, c.head-s.ensures.0, c.head.ensures.0, s.0.table.few_states, s.1.table.few_states)
+-- the states of both rooms are refined
+whole : (c : After-head-s) → let r = c.refine-rounds in Refined (both c.args.left.now c.args.right.now) r.new.part r.new.lineage.parent r.new.lineage.born r.result
+whole c =
+    let p = c.both-pair.ensures in
+    rw (p.states, p.rooms.0, p.rooms.1, c.table.ensures.table, c.table-2.ensures.table) at c.refine-rounds.ensures.refined
+
+-- the right one starts behind the states of the left one
+start : (c : After-head-s) → c.head-s.result.states ≡ states_of c.args.left.now
+start c = rw (c.both-pair.ensures.rooms.0, c.table.ensures.table) at c.head-s.ensures.counts.0
 
 pub kinds-kinds-requires : goal.kinds-kinds-requires
-kinds-kinds-requires c = let s = c.requires.sound in record { sound_table = (s.0.table, s.1.table); most = most_bytes _ _ }
+kinds-kinds-requires c = most_bytes _ _
 
-pub refine-rounds-requires : goal.refine-rounds-requires
-refine-rounds-requires c =
-    let s = c.requires.sound in
-    record {
-      first_states = rw (c.head-s.ensures.0, c.head.ensures.0) (side_both _ _ s.0.table s.1.table);
-      kinds = c.kinds-kinds.ensures;
-      part_value = (refl, refl, refl);
-      both_limit_in_bounds = c.requires.word_bytes_in_bounds.1;
-    }
+pub returns-then-part-s-clause-answers_compare : goal.returns-then-part-s-clause-answers_compare
+returns-then-part-s-clause-answers_compare c =
+    let a = (goal.at.returns-then-part-s-clause-answers_compare c).After-head-s in
+    answer_same c.table.ensures.sound c.table-2.ensures.sound (whole a) (rw (start a) at c.if-part-s.true)
 
-pub offset_bounds-part-s : goal.offset_bounds-part-s
-offset_bounds-part-s c = omega (arith, c.requires.sound.0.table.few_states, c.head-s.ensures.0)
+pub spell-requires-clause-long_in_bounds : goal.spell-requires-clause-long_in_bounds
+spell-requires-clause-long_in_bounds c =
+    let a = (goal.at.spell-requires-clause-long_in_bounds c).After-head-s in
+    omega (arith, answer_fits c.table.ensures.sound c.table-2.ensures.sound (whole a) (rw (start a) at c.distance-long.ensures), c.requires.0)
 
-pub bounds-part-s : goal.bounds-part-s
-bounds-part-s c = omega (arith, c.requires.sound.0.table.few_states, c.head-s.ensures.0)
-
-pub returns-then-part-s : goal.returns-then-part-s
-returns-then-part-s c =
-    let s = c.requires.sound in
-    let e = c.head-s.ensures.0 in
-    record {
-      answers_compare = answer_same s.0 s.1 (rw (e, c.head.ensures.0) at c.refine-rounds.ensures.refined) (rw e at c.if-part-s.true);
-      tail_kept = c.refine-rounds.ensures.tail_kept;
-    }
-
-pub distance-long-requires : goal.distance-long-requires
-distance-long-requires c =
-    let s = c.requires.sound in
-    let e = c.head-s.ensures.0 in
-    rw e (answer_apart s.0 s.1 (rw (e, c.head.ensures.0) at c.refine-rounds.ensures.refined) (rw e at c.if-part-s.false))
-
-pub spell-requires : goal.spell-requires
-spell-requires c =
-    let h = c.head-s.ensures.0 in
-    let r = rw (h, c.head.ensures.0) at c.refine-rounds.ensures.refined in
-    let e = rw h at c.distance-long.ensures in
-    let (s, t) = c.requires.sound in
-    record {
-      spells = answer_spells s t r e;
-      kinds = (_, c.kinds-kinds.ensures);
-      long_in_bounds = omega (arith, answer_fits s t r e, c.requires.word_bytes_in_bounds.0);
-    }
-
-pub returns : goal.returns
-returns c =
-    let s = c.requires.sound in
-    record {
-      answers_compare = answer_separated s.0 s.1 (rw (c.head-s.ensures.0, c.head.ensures.0) at c.refine-rounds.ensures.refined) c.spell.ensures;
-      tail_kept = c.refine-rounds.ensures.tail_kept;
-    }
-
-pub shape_of-words : goal.shape_of-words
-shape_of-words c = c.refine-rounds.ensures.tail_kept.size
+pub returns-clause-answers_compare : goal.returns-clause-answers_compare
+returns-clause-answers_compare c =
+    let a = (goal.at.returns-clause-answers_compare c).After-head-s in
+    let p = c.both-pair.ensures.rooms in
+    answer_separated c.table.ensures.sound c.table-2.ensures.sound (whole a) (rw (p.0, p.1, c.table.ensures.table, c.table-2.ensures.table) at c.spell.ensures)

@@ -2,20 +2,13 @@
 use mathlib.Core.Path.{refl}
 use native.Mathlib.Omega.{arith}
 use Rattle.desk_rules.specs.Press.{no_room}
-use Rattle.desk_rules.proofs.Press.{presses_size}
 use Rattle.desk.proofs.press.Goals as goal
+use Rattle.desk.proofs.press.Goals.{then-form-lt-FORM_BYTES-via-then-form-lt-FORM_BYTES, then-form-lt-FORM_BYTES-via-else-form-lt-FORM_BYTES+then-not-is_lent}
 
 pub returns-then-form-lt-FORM_BYTES : goal.returns-then-form-lt-FORM_BYTES
-returns-then-form-lt-FORM_BYTES c = no_room (λ l. omega (arith, l.form_long)) refl
-
-pub returns-then-not-is_lent : goal.returns-then-not-is_lent
-returns-then-not-is_lent c = no_room (c.is_lent.ensures.no c.if-not-is_lent.true) refl
-
-pub press_lent-requires : goal.press_lent-requires
-press_lent-requires c = c.is_lent.ensures.yes c.if-not-is_lent.false
-
-pub shape_of-form : goal.shape_of-form
-shape_of-form c = presses_size c.press_lent.ensures
-
-pub returns : goal.returns
-returns c = c.press_lent.ensures
+returns-then-form-lt-FORM_BYTES c = no_room
+    (λ l. elim c.then-form-lt-FORM_BYTES.branch [
+      | then-form-lt-FORM_BYTES-via-then-form-lt-FORM_BYTES w ↦ omega (arith, l.form_long, w.if-form-lt-FORM_BYTES.true)
+      | then-form-lt-FORM_BYTES-via-else-form-lt-FORM_BYTES+then-not-is_lent w ↦ w.is_lent.ensures.no w.if-not-is_lent.true l
+    ])
+    refl

@@ -1,17 +1,15 @@
 -- A tally beyond its limit has the first place beyond it.
-use native.Mathlib.Omega.{arith}
 use Rattle.judge.specs.Faults.{nothing, falling, deep, many}
-use Rattle.judge_state.proofs.Keeps.{within}
 use Rattle.judge.proofs.first_fault.Goals as goal
 
-pub returns-then-falls-gt0 : goal.returns-then-falls-gt0
-returns-then-falls-gt0 c = λ _ k. falling (k.falls_kept.many c.if-falls-gt0.true)
+pub returns-in-Some : goal.returns-in-Some
+returns-in-Some c = λ _ k. falling (c.in-Some.ensures _ k.falls_kept)
 
-pub returns-then-opens-gt0 : goal.returns-then-opens-gt0
-returns-then-opens-gt0 c = λ _ k. deep (within k.falls_kept (omega arith)) (k.opens_kept.many c.if-opens-gt0.true)
+pub returns-in-Some-beyond : goal.returns-in-Some-beyond
+returns-in-Some-beyond c = λ _ k. deep (c.in_default.ensures _ k.falls_kept) (c.in-Some-beyond.ensures _ k.opens_kept)
 
-pub returns-then-firsts-gt-POSITIONS : goal.returns-then-firsts-gt-POSITIONS
-returns-then-firsts-gt-POSITIONS c = λ _ k. many (within k.falls_kept (omega arith)) (within k.opens_kept (omega arith)) (k.firsts_kept.many c.if-firsts-gt-POSITIONS.true)
+pub returns-in-Some-beyond-2 : goal.returns-in-Some-beyond-2
+returns-in-Some-beyond-2 c = λ _ k. many (c.in_default.ensures _ k.falls_kept) (c.in_default-beyond.ensures _ k.opens_kept) (c.in-Some-beyond-2.ensures _ k.firsts_kept)
 
 pub returns : goal.returns
-returns c = λ _ k. nothing (within k.falls_kept (omega arith)) (within k.opens_kept (omega arith)) (within k.firsts_kept (omega arith))
+returns c = λ _ k. nothing (c.in_default.ensures _ k.falls_kept) (c.in_default-beyond.ensures _ k.opens_kept) (c.in_default-beyond-2.ensures _ k.firsts_kept)

@@ -1,39 +1,28 @@
+use mathlib.Core.Path.{sym, ◌∙◌}
+use mathlib.Core.Bool.{false≢true}
 use native.Mathlib.Omega.{arith}
-use Rattle.judge.proofs.Follows.{follows_first, follows_on, stops, lacks, ends}
+use Rattle.judge.proofs.Follows.{follows_on, stops, lacks, ends}
 use Rattle.judge.proofs.judge.Goals as goal
 
-pub loop-place-init : goal.loop-place-init
-loop-place-init c = (
-  omega arith,
-  omega arith,
-  omega arith,
-  omega arith,
-  follows_first c.new-x.ensures.stage_value.0 c.new-x.ensures.stage_value.1 c.new-x.ensures.stage_value.2 c.new-x.ensures.notes_kept,
-)
-
-pub returns-then-x-gt-DIGIT : goal.returns-then-x-gt-DIGIT
-returns-then-x-gt-DIGIT c =
-    stops c.args.text.now c.loop-place.place c.loop-place-test.true c.loop-place.invariant.4 c.advance-x.ensures.advances c.loop-place.invariant.3 c.if-x-gt-DIGIT.true
+pub returns-in-Stuck : goal.returns-in-Stuck
+returns-in-Stuck c =
+    let l = c.loop-place in
+    stops c.args.text.now l.place (omega arith) l.invariant.3 c.advance.ensures.advances l.invariant.2 c.in-Stuck.is
 
 pub loop-place-preserved : goal.loop-place-preserved
 loop-place-preserved c =
-    let b = c.advance-x.ensures.bounded in (
-      omega arith,
+    let l = c.loop-place in
+    let b = c.advance.ensures.bounded in (
       omega (arith, b.deep_fits),
-      b.half_fits c.loop-place.invariant.2,
-      omega arith,
-      follows_on c.args.text.now c.loop-place.place c.loop-place-test.true c.loop-place.invariant.4 c.advance-x.ensures.advances (omega arith),
+      b.half_fits l.invariant.1,
+      c.in_default.not-Stuck,
+      follows_on c.args.text.now l.place (omega arith) l.invariant.3 c.advance.ensures.advances c.in_default.not-Stuck,
     )
 
-pub returns-then-x-ne-DONE : goal.returns-then-x-ne-DONE
-returns-then-x-ne-DONE c = lacks c.args.text.now c.loop-place.place (omega arith) c.loop-place.invariant.4 c.loop-place.invariant.3 (λ d _ _. c.if-x-ne-DONE.true d)
-
-pub returns-then-x-ne-ATOM : goal.returns-then-x-ne-ATOM
-returns-then-x-ne-ATOM c = lacks c.args.text.now c.loop-place.place (omega arith) c.loop-place.invariant.4 c.loop-place.invariant.3 (λ _ d _. c.if-x-ne-ATOM.true d)
-
-pub returns-then-x-ne0 : goal.returns-then-x-ne0
-returns-then-x-ne0 c = lacks c.args.text.now c.loop-place.place (omega arith) c.loop-place.invariant.4 c.loop-place.invariant.3 (λ _ _ d. c.if-x-ne0.true d)
+pub returns-then-not-may_end : goal.returns-then-not-may_end
+returns-then-not-may_end c =
+    let l = c.loop-place in
+    lacks c.args.text.now l.place (omega arith) l.invariant.3 l.invariant.2 (λ e. false≢true (sym c.if-not-may_end.true ∙ c.may_end.ensures.1 e))
 
 pub returns : goal.returns
-returns c =
-    ends c.args.text.now c.loop-place.place (omega arith) c.loop-place.invariant.4 c.if-x-ne-DONE.false c.if-x-ne-ATOM.false c.if-x-ne0.false c.first_fault.ensures
+returns c = let l = c.loop-place in ends c.args.text.now l.place (omega arith) l.invariant.3 (c.may_end.ensures.0 c.if-not-may_end.false) c.first_fault.ensures

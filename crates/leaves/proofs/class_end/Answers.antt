@@ -1,28 +1,25 @@
-use Prim.Native.Nat.{◌<◌}
 use native.Mathlib.Omega.{arith}
-use lib.ListN.{length}
+use Rattle.leaves.proofs.ByteByByte.{byte_here}
 use Rattle.leaves.proofs.ClassEnd.{class_all, class_inside, class_one, class_two, class_end}
 use Rattle.leaves.proofs.class_end.Goals as goal
-use Rattle.leaves.proofs.class_end.Goals.{Else-b-eq-CLASS_CLOSE}
 
--- the place of a byte that is no `]` is inside of the text
-ahead : (c : Else-b-eq-CLASS_CLOSE) → c.loop-at.next < length c.args.text.now
-ahead c = class_inside c.loop-at.invariant c.byte_at-b.ensures.0 c.requires c.if-b-eq-CLASS_CLOSE.false
+pub loop-next-init : goal.loop-next-init
+loop-next-init c = class_all _
 
-pub loop-at-init : goal.loop-at-init
-loop-at-init c = class_all _
+pub bounds-text-next : goal.bounds-text-next
+bounds-text-next c = class_inside c.requires c.loop-next.invariant
 
-pub returns-then-b-eq-CLASS_CLOSE : goal.returns-then-b-eq-CLASS_CLOSE
-returns-then-b-eq-CLASS_CLOSE c = class_end c.loop-at.invariant c.byte_at-b.ensures.0 c.requires c.if-b-eq-CLASS_CLOSE.true
+pub returns-in-93 : goal.returns-in-93
+returns-in-93 c = let f = c.loop-next.invariant in class_end f (byte_here _ _ (class_inside c.requires f)) c.requires c.in-93.is
 
-pub loop-at-preserved-then-b-eq-BACKSLASH : goal.loop-at-preserved-then-b-eq-BACKSLASH
-loop-at-preserved-then-b-eq-BACKSLASH c = class_two c.loop-at.invariant c.byte_at-b.ensures.0 c.if-b-eq-BACKSLASH.true
+pub loop-next-preserved-in-92 : goal.loop-next-preserved-in-92
+loop-next-preserved-in-92 c = let f = c.loop-next.invariant in class_two f (byte_here _ _ (class_inside c.requires f)) c.in-92.is
 
-pub loop-at-preserved : goal.loop-at-preserved
-loop-at-preserved c = class_one c.loop-at.invariant c.byte_at-b.ensures.0 c.if-b-eq-CLASS_CLOSE.false c.if-b-eq-BACKSLASH.false
+pub loop-next-preserved : goal.loop-next-preserved
+loop-next-preserved c = let f = c.loop-next.invariant in class_one f (byte_here _ _ (class_inside c.requires f)) (λ e. omega arith) (λ e. omega arith)
 
-pub overflow_add-next-else-b-eq-BACKSLASH : goal.overflow_add-next-else-b-eq-BACKSLASH
-overflow_add-next-else-b-eq-BACKSLASH c = omega (arith, ahead (goal.at.overflow_add-next-else-b-eq-BACKSLASH c).Else-b-eq-CLASS_CLOSE, c.requires.short)
+pub overflow_add-next-in_default : goal.overflow_add-next-in_default
+overflow_add-next-in_default c = omega (arith, class_inside c.requires c.loop-next.invariant, c.requires.short)
 
-pub loop-at-smaller : goal.loop-at-smaller
-loop-at-smaller c = omega (arith, ahead (goal.at.loop-at-smaller c).Else-b-eq-CLASS_CLOSE)
+pub loop-next-smaller : goal.loop-next-smaller
+loop-next-smaller c = omega (arith, class_inside c.requires c.loop-next.invariant)

@@ -4,8 +4,8 @@ use lib.ListN.{length}
 use Rattle.leaves.proofs.ClassEnd.{WithinClass}
 use Rattle.leaves.proofs.class_end.Given as goal
 
-abbrev pub invariant-loop-at : goal.invariant-loop-at
-invariant-loop-at l = WithinClass l.text l.at l.next
+abbrev pub invariant-loop-next : goal.invariant-loop-next
+invariant-loop-next l = WithinClass l.text l.at l.next
 
-abbrev pub decreases-loop-at : goal.decreases-loop-at
-decreases-loop-at l = length l.text - l.next
+abbrev pub decreases-loop-next : goal.decreases-loop-next
+decreases-loop-next l = length l.text - l.next

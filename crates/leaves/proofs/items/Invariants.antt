@@ -5,8 +5,8 @@ use lib.ListN.{length}
 use Rattle.leaves.proofs.ClassItems.{ItemsLeft}
 use Rattle.leaves.proofs.items.Given as goal
 
-abbrev pub invariant-loop-bytes : goal.invariant-loop-bytes
-invariant-loop-bytes l = (length l.bytes ≡ length l.initial.bytes) × ItemsLeft l.text l.at l.next l.k l.initial.bytes l.bytes
+abbrev pub invariant-loop-next : goal.invariant-loop-next
+invariant-loop-next l = (length l.bytes ≡ length l.initial.bytes) × ItemsLeft l.text l.at l.next l.k l.initial.bytes l.bytes
 
-abbrev pub decreases-loop-bytes : goal.decreases-loop-bytes
-decreases-loop-bytes l = length l.text - l.next
+abbrev pub decreases-loop-next : goal.decreases-loop-next
+decreases-loop-next l = length l.text - l.next

@@ -1,25 +1,25 @@
 -- The first byte tells the dot, a class, an escape and a literal apart.
 use native.Mathlib.Omega.{arith}
-use Rattle.leaves.proofs.Singles.{single_dot, single_items, single_class, single_escape, single_byte, single_literal, literal_byte}
+use Rattle.leaves.proofs.ByteByByte.{byte_here}
+use Rattle.leaves.proofs.Singles.{single_dot, single_items, single_class, single_escape, single_byte, single_literal}
 use Rattle.leaves.proofs.single.Goals as goal
 
-pub returns-then-b-eq-DOT : goal.returns-then-b-eq-DOT
-returns-then-b-eq-DOT c = single_dot c.requires.some c.byte_at-b.ensures.0 c.if-b-eq-DOT.true c.insert_dot.ensures
+pub returns-in-46 : goal.returns-in-46
+returns-in-46 c = let p = c.requires.some in single_dot p (byte_here _ _ p.inside) c.in-46.is c.insert_dot.ensures
 
 pub items-requires-clause-some : goal.items-requires-clause-some
-items-requires-clause-some c = single_items c.requires.some c.byte_at-b.ensures.0 c.if-b-eq-CLASS_OPEN.true
+items-requires-clause-some c = let p = c.requires.some in single_items p (byte_here _ _ p.inside) c.in-91.is
 
-pub returns-then-b-eq-CLASS_OPEN : goal.returns-then-b-eq-CLASS_OPEN
-returns-then-b-eq-CLASS_OPEN c = single_class c.requires.some c.byte_at-b.ensures.0 c.if-b-eq-CLASS_OPEN.true c.items.ensures
+pub returns-in-91 : goal.returns-in-91
+returns-in-91 c = let p = c.requires.some in single_class p (byte_here _ _ p.inside) c.in-91.is c.items.ensures
 
 pub escape-e-requires : goal.escape-e-requires
-escape-e-requires c = single_escape c.requires.some c.byte_at-b.ensures.0 c.if-b-eq-BACKSLASH.true
+escape-e-requires c = let p = c.requires.some in single_escape p (byte_here _ _ p.inside) c.in-92.is
 
-pub returns-then-b-eq-BACKSLASH : goal.returns-then-b-eq-BACKSLASH
-returns-then-b-eq-BACKSLASH c = single_byte c.requires.some c.byte_at-b.ensures.0 c.escape-e.ensures c.insert.ensures
+pub returns-in-92 : goal.returns-in-92
+returns-in-92 c = let p = c.requires.some in single_byte p (byte_here _ _ p.inside) c.escape-e.ensures c.insert.ensures
 
-pub overflow_cast-c : goal.overflow_cast-c
-overflow_cast-c c = omega (arith, literal_byte c.requires.some c.byte_at-b.ensures.0 c.if-b-eq-DOT.false c.if-b-eq-CLASS_OPEN.false c.if-b-eq-BACKSLASH.false)
-
-pub returns : goal.returns
-returns c = single_literal c.requires.some c.byte_at-b.ensures.0 c.if-b-eq-DOT.false c.if-b-eq-CLASS_OPEN.false c.if-b-eq-BACKSLASH.false c.insert-2.ensures
+pub returns-in_default : goal.returns-in_default
+returns-in_default c =
+    let p = c.requires.some in
+    single_literal p (byte_here _ _ p.inside) (λ e. omega arith) (λ e. omega arith) (λ e. omega arith) c.insert-in_default.ensures

@@ -1,12 +1,7 @@
--- The first i bytes lead to q.
-use Prim.Native.Nat.{◌-◌}
-use lib.ListN.{length}
+-- The bytes so far lead to q.
 use Rattle.scope.specs.Machines.Room.{machine}
 use Rattle.matching.proofs.Completable.{LedTo}
 use Rattle.matching.proofs.last_state.Given as goal
 
-abbrev pub invariant-loop-i : goal.invariant-loop-i
-invariant-loop-i l = LedTo (machine l.room) l.text l.i l.q
-
-abbrev pub decreases-loop-i : goal.decreases-loop-i
-decreases-loop-i l = length l.text - l.i
+abbrev pub invariant-loop-b : goal.invariant-loop-b
+invariant-loop-b l = LedTo (machine l.room) l.text l.b-index l.q

@@ -6,11 +6,8 @@ use Rattle.matching.proofs.match_text.Goals as goal
 pub returns-then-room-lt-ROOM : goal.returns-then-room-lt-ROOM
 returns-then-room-lt-ROOM c = no_room c.if-room-lt-ROOM.true
 
-pub returns-then-not-is_sound : goal.returns-then-not-is_sound
-returns-then-not-is_sound c = no_form (search rules) (c.is_sound.ensures.no c.if-not-is_sound.true)
-
-pub match_sound-requires : goal.match_sound-requires
-match_sound-requires c = c.is_sound.ensures.yes c.if-not-is_sound.false
+pub returns-in_default : goal.returns-in_default
+returns-in_default c = no_form (search rules) (c.of.ensures.none c.in_default.is)
 
 pub returns : goal.returns
-returns c = c.match_sound.ensures
+returns c = rw (← c.in-Some.ensures.some.0) c.match_sound.ensures

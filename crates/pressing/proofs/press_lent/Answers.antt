@@ -3,7 +3,7 @@ use mathlib.Core.Logic.{inl}
 use mathlib.Core.Path.{refl}
 use native.Mathlib.Omega.{arith}
 use borrow.Author.Rules.{rules}
-use Rattle.desk_rules.proofs.Press.{presses_size, refused}
+use Rattle.desk_rules.proofs.Press.{refused}
 use Rattle.pressing.proofs.Lent.{refused_filled, refused_empty, presses_all}
 use Rattle.pressing.proofs.press_lent.Goals as goal
 
@@ -23,18 +23,10 @@ press_open-requires c =
 pub returns-then-not-is_within : goal.returns-then-not-is_within
 returns-then-not-is_within c = refused c.requires (λ s v. c.is_within.ensures.no c.if-not-is_within.true (v.fields, v.within))
 
-pub are_filled-requires : goal.are_filled-requires
-are_filled-requires c =
-    let w = c.is_within.ensures.yes c.if-not-is_within.false in (c.requires, w.1, w.0.few)
-
 pub returns-then-not-are_filled : goal.returns-then-not-are_filled
 returns-then-not-are_filled c =
     let w = c.is_within.ensures.yes c.if-not-is_within.false in
     refused_filled c.requires (omega (arith, w.1, w.0.few)) (c.are_filled.ensures.no c.if-not-are_filled.true)
-
-pub are_empty-requires : goal.are_empty-requires
-are_empty-requires c =
-    let w = c.is_within.ensures.yes c.if-not-is_within.false in (omega (arith, w.1, w.0.few), c.requires.form_long)
 
 pub returns-then-not-are_empty : goal.returns-then-not-are_empty
 returns-then-not-are_empty c =
@@ -47,24 +39,8 @@ returns-then-closed-count c =
     presses_all c.requires w.0 c.if-closed-count.true (λ i. search rules)
     (c.are_filled.ensures.yes c.if-not-are_filled.false) (c.are_empty.ensures.yes c.if-not-are_empty.false)
 
-pub are_empty-requires-2 : goal.are_empty-requires-2
-are_empty-requires-2 c =
-    let w = c.is_within.ensures.yes c.if-not-is_within.false in
-    (omega (arith, w.1, w.0.few, c.if-closed-count.false), c.requires.form_long)
-
 pub returns-then-not-are_empty-2 : goal.returns-then-not-are_empty-2
 returns-then-not-are_empty-2 c = refused c.requires (λ s v. c.are_empty-2.ensures.no c.if-not-are_empty-2.true (λ g h k. v.later g h (inl (omega arith))))
 
-pub are_sound-requires : goal.are_sound-requires
-are_sound-requires c =
-    let w = c.is_within.ensures.yes c.if-not-is_within.false in
-    (omega (arith, w.0.few), c.requires.rooms_long)
-
 pub returns-then-not-are_sound : goal.returns-then-not-are_sound
 returns-then-not-are_sound c = refused c.requires (λ s v. c.are_sound.ensures.no c.if-not-are_sound.true (λ f h k. s f h))
-
-pub shape_of-form : goal.shape_of-form
-shape_of-form c = presses_size c.press_open.ensures
-
-pub returns : goal.returns
-returns c = c.press_open.ensures

@@ -1,9 +1,7 @@
 use Prim.Native.Nat.{◌+◌, ◌*◌}
 use mathlib.Core.Path.{◌≡◌, sym, ap, ◌∙◌}
 use native.Mathlib.Omega.{arith}
-use borrow.Author.Rules.{rules}
 use Rattle.scope.specs.Positions.Bits.{joined}
-use Rattle.scope.specs.Limits.{set_words}
 use Rattle.sets.specs.Value.{set_value}
 use Rattle.byte_classes.proofs.Unions.{joined_none}
 use Rattle.reach.specs.Reach.{follow_of}
@@ -11,17 +9,12 @@ use Rattle.reach.proofs.Passing.{word_bits}
 use Rattle.reach.proofs.follows.Goals as goal
 
 pub loop-w-init : goal.loop-w-init
-loop-w-init c = (search rules, c.none-union.ensures ∙ sym (joined_none _))
+loop-w-init c = c.none-union.ensures ∙ sym (joined_none _)
 
 pub loop-w-preserved : goal.loop-w-preserved
 loop-w-preserved c =
     let l = c.loop-w in
     let a = c.args in
-    let e : 64 * l.w + 64 ≡ 64 * (l.w + 1) = omega arith in (
-      search rules,
-      c.follows_word-union.ensures (set_value a.s.words) (word_bits a.s.words l.w (omega arith)) l.invariant.1
-          ∙ ap (joined (follow_of a.words.now (set_value a.s.words))) e,
-    )
-
-pub returns : goal.returns
-returns c = let e : c.loop-w.w ≡ set_words = omega arith in rw e at c.loop-w.invariant.1
+    let e : 64 * l.w + 64 ≡ 64 * (l.w + 1) = omega arith in
+    c.follows_word-union.ensures (set_value a.s.words) (word_bits a.s.words l.w (omega arith)) l.invariant
+    ∙ ap (joined (follow_of a.words.now (set_value a.s.words))) e

@@ -1,9 +1,6 @@
 use native.Mathlib.Omega.{arith}
-use Rattle.reach.proofs.Passing.{passing_none, passing_in, passing_more, passing_end}
+use Rattle.reach.proofs.Passing.{passing_in, passing_more, passing_end}
 use Rattle.reach.proofs.follows_word.Goals as goal
-
-pub loop-rest-init : goal.loop-rest-init
-loop-rest-init c = passing_none _ _ _ _
 
 pub load-requires : goal.load-requires
 load-requires c = omega (arith, passing_in c.loop-rest.invariant c.ranges.x.fits c.loop-rest-test.true)

@@ -1,29 +1,21 @@
 -- The parts of the image are stored one after the other; no part changes another.
+use Prim.Native.Nat.{ℕ, ◌+◌}
 use native.Mathlib.Omega.{arith}
 use borrow.Author.Rules.{rules}
-use Rattle.room_writing.proofs.PlanImage.{table_few, image_rows, image_parts}
+use lib.ListN.{get_or}
+use Rattle.scope.specs.Limits.{marks_at}
+use Rattle.scope.specs.Machines.Room.{mark_of}
+use Rattle.room_writing.proofs.PlanImage.{states_few, table_few, image_parts}
+use Rattle.room_writing.proofs.PlanTable.{stored_as}
 use Rattle.room_writing.proofs.write.Goals as goal
 
-pub write_marks-requires : goal.write_marks-requires
-write_marks-requires c = record { states_in = image_rows c.requires.planned; cells_at_in_bounds = search rules }
-
-pub write_cells-requires : goal.write_cells-requires
-write_cells-requires c =
-    let g = c.requires.planned in
-    record { states_in = image_rows g; k_le_class_limit = (g.classed.few, (λ i l z. g.classed.inside i l), search rules) }
-
-pub overflow_mul-n : goal.overflow_mul-n
-overflow_mul-n c =
-    omega (arith, table_few c.requires.planned)
-
-pub overflow_add-n-2 : goal.overflow_add-n-2
-overflow_add-n-2 c =
-    omega (arith, table_few c.requires.planned)
-
 pub fill-requires-2 : goal.fill-requires-2
-fill-requires-2 c =
-    (omega (arith, table_few c.requires.planned), search rules)
+fill-requires-2 c = (omega (arith, table_few c.requires.planned), search rules)
 
 pub returns : goal.returns
-returns c = image_parts c.requires.planned c.write_head.ensures c.write_classes.ensures c.write_marks.ensures c.fill.ensures
-    c.write_cells.ensures c.fill-2.ensures
+returns c =
+    let p = c.args.plan.now in
+    let (room, states) = c.new-rows.ensures in
+    let mark = λ (q : ℕ). mark_of c.args.room.now (get_or p.states.order q 0) in
+    let marks = stored_as mark marks_at (marks_at + p.states.count) _ c.write_marks.new.marks (omega arith) (omega (arith, states_few c.requires.planned)) (omega arith) (λ q h. (rw (room, states) at (c.write_marks.ensures)) q (omega arith)) in
+    image_parts c.requires.planned c.write_head.ensures c.write_classes.ensures marks c.fill.ensures (rw (room, states) at (c.write_cells.ensures)) c.fill-2.ensures

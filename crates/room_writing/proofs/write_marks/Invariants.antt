@@ -1,13 +1,9 @@
--- The marks of the states below q are stored.
-use Prim.Native.Nat.{◌+◌, ◌-◌, ◌≤◌}
+-- The marks of the rows before q are stored.
+use Prim.Native.Nat.{ℕ, ◌<◌}
+use mathlib.Core.Path.{◌≡◌}
 use lib.ListN.{get_or}
-use Rattle.scope.specs.Limits.{marks_at}
 use Rattle.scope.specs.Machines.Room.{mark_of}
-use Rattle.buffers.specs.Stored.{Stored}
 use Rattle.room_writing.proofs.write_marks.Given as goal
 
 abbrev pub invariant-loop-q : goal.invariant-loop-q
-invariant-loop-q l = (l.q ≤ l.n) × Stored l.initial.to l.to marks_at (marks_at + l.q) (λ i. mark_of l.from (get_or l.order (i - marks_at) 0))
-
-abbrev pub decreases-loop-q : goal.decreases-loop-q
-decreases-loop-q l = l.n - l.q
+invariant-loop-q l = (i : ℕ) → i < l.q → get_or l.marks i 0 ≡ mark_of l.rows.room (get_or l.rows.states.now.order i 0)

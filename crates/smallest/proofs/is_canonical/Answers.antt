@@ -2,8 +2,5 @@
 use Rattle.smallest.proofs.Stays.{stays_decides}
 use Rattle.smallest.proofs.is_canonical.Goals as goal
 
-pub stays-requires : goal.stays-requires
-stays-requires c = c.make_plan.ensures.0
-
 pub returns : goal.returns
 returns c = let m = c.make_plan.ensures in (stays_decides m.0 c.stays.ensures, m.1)

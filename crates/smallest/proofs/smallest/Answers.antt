@@ -6,16 +6,13 @@ use Rattle.room_writing.proofs.PlanImage.{image_smallest}
 use Rattle.way_writing.proofs.WaysWritten.{written_canonical, written_equal}
 use Rattle.smallest.proofs.smallest.Goals as goal
 
-pub write-requires : goal.write-requires
-write-requires c = record { planned = c.make_plan.ensures.0; ways_at_in_bounds = omega (arith, c.requires.room_bytes_in_bounds.0) }
-
 pub write_ways-requires : goal.write_ways-requires
-write_ways-requires c = (image_smallest c.make_plan.ensures.0 c.requires.room_bytes_in_bounds.0 c.write.ensures).0
+write_ways-requires c = (image_smallest c.make_plan.ensures.0 c.requires.0 c.write.ensures).0
 
 pub returns : goal.returns
 returns c =
     let m = c.make_plan.ensures in
-    let (s, k, e, t) = image_smallest m.0 c.requires.room_bytes_in_bounds.0 c.write.ensures in
+    let (s, k, e, t) = image_smallest m.0 c.requires.0 c.write.ensures in
     let w = c.write_ways.ensures in
     record {
       canonical = (written_canonical s w k, λ v g. e v g ∙ written_equal s w v g, tail_then (tail_within (omega arith) t) w.tail);

@@ -1,5 +1,5 @@
 -- Whether each of the first q states has the right key.
-use Prim.Native.Nat.{ℕ, ◌-◌, ◌≤◌, ◌<◌}
+use Prim.Native.Nat.{ℕ, ◌≤◌, ◌<◌}
 use mathlib.Core.Path.{◌≡◌}
 use mathlib.Core.List.{List}
 use lib.Dec.{eqb}
@@ -13,7 +13,4 @@ abbrev pub Right : List ℕ → List ℕ → ℕ → Type 0
 Right room least q = key_of room q ≡ right_key (eqb (mark_of room q) 1) (get_or least q 0)
 
 abbrev pub invariant-loop-q : goal.invariant-loop-q
-invariant-loop-q l = (l.q ≤ l.n) × Decides l.right ((j : ℕ) → j < l.q → 0 ≤ j → Right l.room l.least j)
-
-abbrev pub decreases-loop-q : goal.decreases-loop-q
-decreases-loop-q l = l.n - l.q
+invariant-loop-q l = Decides l.right ((j : ℕ) → j < l.q → 0 ≤ j → Right l.room l.least j)

@@ -5,10 +5,10 @@ use Rattle.soundness.proofs.WaysJudged.{lowered_none, lowered_more}
 use Rattle.soundness.proofs.begin.Goals as goal
 
 pub loop-q-init : goal.loop-q-init
-loop-q-init c = (search rules, lowered_none c.requires.least_len)
+loop-q-init c = lowered_none (search rules)
 
 pub loop-q-preserved : goal.loop-q-preserved
-loop-q-preserved c = (search rules, lowered_more c.of_first.result c.loop-q.invariant.1 (search rules) c.of_first.ensures)
+loop-q-preserved c = lowered_more c.of_first.result c.loop-q.invariant (search rules) c.of_first.ensures
 
 pub returns : goal.returns
-returns c = let e : c.loop-q.q ≡ states_of c.args.room.now = search rules in rw e at c.loop-q.invariant.1
+returns c = let e : c.loop-q.q ≡ states_of c.args.room.now = search rules in rw e at c.loop-q.invariant

@@ -1,5 +1,5 @@
 -- The invariant: of the set number i the words below w have the span, too.
-use Prim.Native.Nat.{◌+◌, ◌-◌, ◌*◌, ◌≤◌}
+use Prim.Native.Nat.{◌+◌, ◌*◌}
 use mathlib.Core.Path.{◌≡◌}
 use mathlib.Core.Bool.{◌||◌}
 use lib.ListN.{length}
@@ -12,8 +12,5 @@ use Rattle.spans.proofs.add.Given as goal
 
 abbrev pub invariant-loop-w : goal.invariant-loop-w
 invariant-loop-w l =
-    (l.w ≤ set_words) × (l.at ≡ l.i * set_words) × (length l.words ≡ length l.initial.words)
-    × Becoming l.initial.words l.words l.i l.w (λ q. has (set_at l.initial.words l.i) q || between (l.from + 1) l.to q)
-
-abbrev pub decreases-loop-w : goal.decreases-loop-w
-decreases-loop-w l = set_words - l.w
+    (l.at ≡ l.i * set_words) × (length l.words ≡ length l.initial.words)
+    × Becoming l.initial.words l.words l.i l.w (λ q. has (set_at l.initial.words l.i) q || between (l.span.after + 1) l.span.upto q)

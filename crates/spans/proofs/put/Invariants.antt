@@ -1,5 +1,5 @@
 -- The invariant: of the set number p the words below w have what the set number i has of the span, too.
-use Prim.Native.Nat.{◌+◌, ◌-◌, ◌*◌, ◌≤◌}
+use Prim.Native.Nat.{◌+◌, ◌*◌}
 use mathlib.Core.Path.{◌≡◌}
 use mathlib.Core.Bool.{◌&&◌, ◌||◌}
 use lib.ListN.{length}
@@ -12,9 +12,6 @@ use Rattle.spans.proofs.put.Given as goal
 
 abbrev pub invariant-loop-w : goal.invariant-loop-w
 invariant-loop-w l =
-    (l.w ≤ set_words) × (l.at ≡ l.i * set_words) × (l.into ≡ l.p * set_words) × (length l.words ≡ length l.initial.words)
+    (l.at ≡ l.i * set_words) × (l.into ≡ l.p * set_words) × (length l.words ≡ length l.initial.words)
     × Becoming l.initial.words l.words l.p l.w
-    (λ q. has (set_at l.initial.words l.p) q || (l.wanted && (has (set_at l.initial.words l.i) q && between (l.from + 1) l.to q)))
-
-abbrev pub decreases-loop-w : goal.decreases-loop-w
-decreases-loop-w l = set_words - l.w
+    (λ q. has (set_at l.initial.words l.p) q || (has (set_at l.initial.words l.i) q && between (l.span.after + 1) l.span.upto q))

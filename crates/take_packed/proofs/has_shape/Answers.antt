@@ -1,23 +1,21 @@
 -- Each test is one that all bytes with an image pass; past the last byte all bits are 0, so the filling is the last thing to test.
-use mathlib.Core.Path.{◌∙◌}
+use Prim.Native.Nat.{◌+◌, ◌/◌}
+use mathlib.Core.Path.{◌≡◌, sym, ◌∙◌}
 use native.Mathlib.Omega.{arith}
-use Rattle.scope.specs.Packing.Laid.{Holds}
-use Rattle.take_packed.specs.FormImage.{form_bit}
-use Rattle.take_packed.proofs.Taken.{no_number, no_size, judged_not, judged}
+use borrow.Author.Tests.{eqb-true}
+use Rattle.take_packed.proofs.Taken.{judged}
 use Rattle.take_packed.proofs.has_shape.Goals as goal
+use Rattle.take_packed.proofs.has_shape.Goals.{then-form-size, else-form-size}
 
-pub returns-then-form-size : goal.returns-then-form-size
-returns-then-form-size c = let bits = c.form_bits-bits in judged_not (no_size c.requires bits.result bits.ensures.0 (λ e. absurd (omega arith)))
-
-pub returns-then-take-ne-FORM_NUMBER : goal.returns-then-take-ne-FORM_NUMBER
-returns-then-take-ne-FORM_NUMBER c = let number = c.take in judged_not (no_number c.requires number.result number.ensures.0 c.if-take-ne-FORM_NUMBER.true)
-
-pub returns : goal.returns
-returns c =
+pub returns-then-take-eq-FORM_NUMBER : goal.returns-then-take-eq-FORM_NUMBER
+returns-then-take-eq-FORM_NUMBER c =
     let bits = c.form_bits-bits in
-    let number : Holds (form_bit c.args.form.now) 0 4 1 = c.take.ensures.0 ∙ omega arith in
-    judged c.requires bits.result bits.ensures.0 c.take-2.result
-    (λ i. omega (arith, c.type_inv.form i))
-    (omega arith)
-    number
-    c.take-2.ensures.0
+    let fill = c.take-then-take-eq-FORM_NUMBER in
+    let size : c.div_ceil-size.result ≡ (bits.result + 7) / 8 = omega (arith, c.div_ceil-size.ensures) in
+    elim c.if-form-size.branch [
+      | then-form-size w ↦
+          let one = eqb-true w.take.result 1 (sym w.value-is ∙ c.if-take-eq-FORM_NUMBER.true) in
+          judged c.requires bits.result bits.ensures.0 fill.result (λ i. omega (arith, c.type_inv.form i)) (w.if-form-size.true ∙ size) (w.take.ensures.0 ∙ one)
+          (rw size at fill.ensures.0)
+      | else-form-size w ↦ absurd (w.if-form-size.false (eqb-true _ _ (sym w.value-is ∙ c.if-take-eq-FORM_NUMBER.true)))
+    ]

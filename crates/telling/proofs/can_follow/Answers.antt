@@ -4,4 +4,4 @@ use Rattle.telling.proofs.can_follow.Goals as goal
 
 pub returns : goal.returns
 returns c = let a = c.args in
-    live_follows a.room.now a.text.now c.last_state-q.ensures.0 c.mark_next.ensures
+    live_follows a.room.now a.text.now (rw c.table.ensures.table at c.last_state-q.ensures.0) c.mark_next.ensures

@@ -1,11 +1,5 @@
-use Prim.Native.Nat.{ℕ}
-use lib.ListN.{length-replicate}
-use Rattle.scope.specs.Limits.{class_limit}
 use Rattle.way_writing.proofs.Sinking.{level_home}
 use Rattle.way_writing.proofs.ways_home.Goals as goal
-
-pub held-count-requires : goal.held-count-requires
-held-count-requires c = (c.requires, length-replicate {A = ℕ} class_limit 0)
 
 pub loop-list-smaller : goal.loop-list-smaller
 loop-list-smaller c = c.sweep.ensures.less c.loop-list-test.true
@@ -14,4 +8,4 @@ pub loop-list-preserved : goal.loop-list-preserved
 loop-list-preserved c = c.sweep.ensures.sinking
 
 pub returns : goal.returns
-returns c = let s = c.sweep.ensures in level_home c.requires s.sinking (s.level c.loop-list-test.false)
+returns c = let s = c.sweep.ensures in level_home c.first_ways-ways.ensures.sound s.sinking (s.level c.loop-list-test.false)

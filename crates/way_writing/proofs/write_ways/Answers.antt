@@ -3,4 +3,6 @@ use Rattle.way_writing.proofs.WaysWritten.{ways_written}
 use Rattle.way_writing.proofs.write_ways.Goals as goal
 
 pub returns : goal.returns
-returns c = ways_written c.requires c.head-n.ensures.0 c.ways_home-ways.ensures c.put.ensures c.fill.ensures
+returns c =
+    let e = c.new-table.ensures in
+    ways_written c.requires (rw e at c.head-n.ensures.counts.0) (rw e at c.ways_home-ways.ensures) c.put.ensures c.fill.ensures

@@ -7,7 +7,7 @@ use Rattle.byte_classes.specs.Group.{end_of}
 use Rattle.byte_classes.proofs.group.spread.Given as goal
 
 abbrev pub invariant-loop-from : goal.invariant-loop-from
-invariant-loop-from l = (l.from ≤ byte_values) × Stored l.initial.map l.map 0 l.from (λ b. get_or l.initial.map (end_of l.ends b) 0)
+invariant-loop-from l = (l.from ≤ byte_values) × Stored l.initial.map l.map 0 l.from (λ b. get_or l.initial.map (end_of l.ends.words b) 0)
 
 abbrev pub decreases-loop-from : goal.decreases-loop-from
 decreases-loop-from l = byte_values - l.from

@@ -1,8 +1,6 @@
 use Prim.Native.Nat.{ℕ, ◌+◌, ◌^◌}
-use mathlib.Core.Path.{◌≡◌, sym, ap, ◌∙◌}
+use mathlib.Core.Path.{sym, ap, ◌∙◌}
 use mathlib.Core.Bool.{Bool}
-use native.Mathlib.Omega.{arith}
-use borrow.Author.Rules.{rules}
 use lib.Bits.{bit_or}
 use Rattle.sets.specs.Layout.{held}
 use Rattle.sets.proofs.HeldBits.{held_bit, held_not}
@@ -11,19 +9,14 @@ use Rattle.byte_classes.proofs.masks.byte_mask.Goals as goal
 use Rattle.byte_classes.proofs.masks.byte_mask.Goals.{else-bit-eq1, then-bit-eq1}
 
 pub loop-p-init : goal.loop-p-init
-loop-p-init c = (search rules, c.none-mask.ensures ∙ sym (joined_none _))
+loop-p-init c = c.none-mask.ensures ∙ sym (joined_none _)
 
 pub loop-p-preserved : goal.loop-p-preserved
-loop-p-preserved c = let l = c.loop-p in let a = c.args in
-    let in-set : ℕ → Bool = λ p. held a.bytes.now p a.b in (
-      search rules,
-      elim c.if-bit-eq1.branch [
-        | then-bit-eq1 w ↦ rw w.mask-is (w.with-mask.ensures ∙ ap (λ (n : ℕ). bit_or n (2 ^ (l.p + 1))) l.invariant.1
-            ∙ sym (joined_with in-set (λ p. 2 ^ (p + 1)) l.p (held_bit a.bytes.now l.p a.b (sym c.bit.ensures.0 ∙ w.if-bit-eq1.true))))
-        | else-bit-eq1 w ↦ rw w.mask-is (l.invariant.1
-            ∙ sym (joined_without in-set (λ p. 2 ^ (p + 1)) l.p (held_not a.bytes.now l.p a.b (λ e. w.if-bit-eq1.false (c.bit.ensures.0 ∙ e)))))
-      ],
-    )
-
-pub returns : goal.returns
-returns c = let e : c.loop-p.p ≡ c.args.count = omega arith in rw e at c.loop-p.invariant.1
+loop-p-preserved c = let l = c.loop-p in let m = c.args.sets.bytes.now in
+    let in-set : ℕ → Bool = λ p. held m p c.args.b in
+    elim c.if-bit-eq1.branch [
+      | then-bit-eq1 w ↦ rw w.mask-is (w.with-mask.ensures ∙ ap (λ (n : ℕ). bit_or n (2 ^ (l.p + 1))) l.invariant
+          ∙ sym (joined_with in-set (λ p. 2 ^ (p + 1)) l.p (held_bit m l.p c.args.b (sym c.bit.ensures.0 ∙ w.if-bit-eq1.true))))
+      | else-bit-eq1 w ↦ rw w.mask-is (l.invariant
+          ∙ sym (joined_without in-set (λ p. 2 ^ (p + 1)) l.p (held_not m l.p c.args.b (λ e. w.if-bit-eq1.false (c.bit.ensures.0 ∙ e)))))
+    ]

@@ -1,29 +1,27 @@
-use Prim.Native.Nat.{ℕ, ◌*◌}
 use mathlib.Core.Path.{◌≡◌}
 use native.Mathlib.Omega.{arith}
-use borrow.Author.Rules.{rules}
-use lib.ListN.{length-replicate}
-use Rattle.scope.specs.Limits.{byte_values, class_limit, set_words}
+use Rattle.scope.specs.Limits.{byte_values}
 use Rattle.byte_classes.proofs.Classes.{group_below}
 use Rattle.byte_classes.proofs.Masking.{masking_none, masking_new, masking_old}
 use Rattle.byte_classes.proofs.masks.class_masks.Goals as goal
 use Rattle.byte_classes.proofs.masks.class_masks.Goals.{else-class-n, then-class-n}
 
 pub loop-from-init : goal.loop-from-init
-loop-from-init c = (search rules, masking_none _ _ _ _ (length-replicate {A = ℕ} (class_limit * set_words) 0))
+loop-from-init c = (omega arith, masking_none _ _ _ _ c.told-masks)
 
 pub store-requires : goal.store-requires
-store-requires c = omega (arith, group_below c.requires.runs_of.1.1 c.end_of-b.result c.end_of-b.ensures.byte, c.loop-from.invariant.1.masked.size)
+store-requires c = omega (arith, group_below c.requires.grouped c.end_of-b.result c.end_of-b.ensures.byte, c.loop-from.invariant.1.masked.size)
 
 pub overflow_add-n : goal.overflow_add-n
-overflow_add-n c = omega (arith, group_below c.requires.runs_of.1.1 c.end_of-b.result c.end_of-b.ensures.byte)
+overflow_add-n c = omega (arith, group_below c.requires.grouped c.end_of-b.result c.end_of-b.ensures.byte)
 
 pub loop-from-preserved : goal.loop-from-preserved
-loop-from-preserved c = let p = c.requires.runs_of in (
-  search rules,
+loop-from-preserved c = (
+  omega (arith, c.end_of-b.ensures.byte),
   elim c.if-class-n.branch [
-    | then-class-n w ↦ rw (w.masks-is, w.n-is) (masking_new p.0 p.1.1 c.end_of-b.ensures c.loop-from.invariant.1 w.if-class-n.true w.byte_mask.ensures w.store.ensures)
-    | else-class-n w ↦ rw (w.masks-is, w.n-is) (masking_old p.0 p.1.1 c.end_of-b.ensures c.loop-from.invariant.1 w.if-class-n.false)
+    | then-class-n w ↦ rw (w.masks-is, w.n-is)
+        (masking_new c.requires.runs_of c.requires.grouped c.end_of-b.ensures c.loop-from.invariant.1 w.if-class-n.true w.byte_mask.ensures w.store.ensures)
+    | else-class-n w ↦ rw (w.masks-is, w.n-is) (masking_old c.requires.runs_of c.requires.grouped c.end_of-b.ensures c.loop-from.invariant.1 w.if-class-n.false)
   ],
 )
 

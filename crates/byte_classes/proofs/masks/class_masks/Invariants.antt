@@ -5,7 +5,7 @@ use Rattle.byte_classes.proofs.Masking.{Masking}
 use Rattle.byte_classes.proofs.masks.class_masks.Given as goal
 
 abbrev pub invariant-loop-from : goal.invariant-loop-from
-invariant-loop-from l = (l.from ≤ byte_values) × Masking l.bytes l.count l.map l.masks l.n l.from
+invariant-loop-from l = (l.from ≤ byte_values) × Masking l.sets.bytes.now l.sets.count l.groups.map l.masks l.n l.from
 
 abbrev pub decreases-loop-from : goal.decreases-loop-from
 decreases-loop-from l = byte_values - l.from

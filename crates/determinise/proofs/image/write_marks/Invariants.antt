@@ -1,5 +1,5 @@
--- The invariant: the marks below i are stored.
-use Prim.Native.Nat.{◌≤◌, ◌-◌, ◌+◌}
+-- The invariant: the marks of the sets below i are stored.
+use Prim.Native.Nat.{◌-◌, ◌+◌}
 use Rattle.scope.specs.Limits.{marks_at}
 use Rattle.buffers.specs.Stored.{Stored}
 use Rattle.sets.specs.Value.{set_value}
@@ -8,9 +8,4 @@ use Rattle.determinise.specs.Image.{mark_by}
 use Rattle.determinise.proofs.image.write_marks.Given as goal
 
 abbrev pub invariant-loop-i : goal.invariant-loop-i
-invariant-loop-i l =
-    (marks_at ≤ l.i) × (l.i ≤ marks_at + l.n)
-    × Stored l.initial.image l.image marks_at l.i (λ j. mark_by (set_value l.finals.words) (reached_set l.words (j - marks_at)))
-
-abbrev pub decreases-loop-i : goal.decreases-loop-i
-decreases-loop-i l = marks_at + l.n - l.i
+invariant-loop-i l = Stored l.initial.image l.image marks_at (marks_at + l.i) (λ j. mark_by (set_value l.finals.words) (reached_set l.words (j - marks_at)))

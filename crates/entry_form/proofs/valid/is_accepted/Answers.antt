@@ -1,24 +1,11 @@
 -- What is matched is the room and the text of the field; of a text there is one answer.
 use native.Mathlib.Omega.{arith}
-use Rattle.buffers.proofs.OneMore.{holds, fails}
-use Rattle.entry_form.proofs.FieldTests.{field_matched, field_refused}
+use Rattle.std.proofs.lemmas.Grind.{common_steps}
+use Rattle.entry_form.proofs.FieldTests.{not_accepted}
 use Rattle.entry_form.proofs.valid.is_accepted.Goals as goal
 
-pub returns-in-Accepted : goal.returns-in-Accepted
-returns-in-Accepted c = let a = c.args in holds (field_matched a.rooms.now a.form.now a.f c.match_text-matched.ensures c.in-Accepted.is)
+pub returns-in_default : goal.returns-in_default
+returns-in_default c = not_accepted c.args.rooms.now c.args.form.now c.args.f _ (λ i. omega (arith, c.type_inv.form i)) c.room_at.ensures c.text_at.ensures c.match_text-matched.ensures (λ e. grind (arith, common_steps))
 
-pub returns-in-Dead : goal.returns-in-Dead
-returns-in-Dead c = let a = c.args in
-    fails (field_refused a.rooms.now a.form.now a.f (λ i. omega (arith, c.type_inv.form i)) c.match_text-matched.ensures c.in-Dead.is (λ z. omega arith))
-
-pub returns-in-Unfinished : goal.returns-in-Unfinished
-returns-in-Unfinished c = let a = c.args in
-    fails (field_refused a.rooms.now a.form.now a.f (λ i. omega (arith, c.type_inv.form i)) c.match_text-matched.ensures c.in-Unfinished.is (λ z. omega arith))
-
-pub returns-in-Room : goal.returns-in-Room
-returns-in-Room c = let a = c.args in
-    fails (field_refused a.rooms.now a.form.now a.f (λ i. omega (arith, c.type_inv.form i)) c.match_text-matched.ensures c.in-Room.is (λ z. omega arith))
-
-pub returns-in-Form : goal.returns-in-Form
-returns-in-Form c = let a = c.args in
-    fails (field_refused a.rooms.now a.form.now a.f (λ i. omega (arith, c.type_inv.form i)) c.match_text-matched.ensures c.in-Form.is (λ z. omega arith))
+pub returns-in_default-2 : goal.returns-in_default-2
+returns-in_default-2 c = not_accepted c.args.rooms.now c.args.form.now c.args.f _ (λ i. omega (arith, c.type_inv.form i)) c.room_at.ensures c.text_at.ensures c.match_text-matched.ensures (λ e. grind (arith, common_steps))

@@ -1,11 +1,12 @@
 use Prim.Native.Nat.{◌+◌}
+use Prim.Native.Char.{code}
 use mathlib.Core.Path.{refl, sym, ap, ◌∙◌}
-use mathlib.Core.Bool.{false≢true}
+use mathlib.Core.Bool.{not, not-not, false≢true}
 use native.Mathlib.Omega.{arith}
 use borrow.Author.Rules.{rules}
 use Rattle.scope.specs.Bytes.{byte}
 use Rattle.scope.specs.Text.Grammar.{branches, exprs}
-use Rattle.leaves.proofs.ByteByByte.{inside}
+use Rattle.leaves.proofs.ByteByByte.{inside, byte_here, was_byte, no_byte}
 use Rattle.factors.proofs.Rights.{right_moved}
 use Rattle.pattern.proofs.Tails.{ready_atom, ready_part}
 use Rattle.pattern.proofs.Groups.{ready_inner, answer_inner}
@@ -15,10 +16,13 @@ use Rattle.pattern.proofs.readers.+atom_branch_expr_factor.Goals as goal
 -- ---- an atom
 
 pub atom-expr-inner-requires : goal.atom-expr-inner-requires
-atom-expr-inner-requires t c = (omega arith, (ready_inner c.requires.0 c.byte_at.ensures.0 c.if-byte_at-eq-OPEN.true, search rules))
+atom-expr-inner-requires t c =
+    let p = c.requires.0 in
+    (omega arith, (ready_inner p (byte_here _ _ p.inside) c.if-text-at-eq40.true, search rules))
 
-pub atom-returns-then-byte_at-eq-OPEN : goal.atom-returns-then-byte_at-eq-OPEN
-atom-returns-then-byte_at-eq-OPEN t c = answer_inner c.requires.0 c.byte_at.ensures.0 c.if-byte_at-eq-OPEN.true c.expr-inner.ensures c.moved.ensures
+pub atom-returns-then-text-at-eq40 : goal.atom-returns-then-text-at-eq40
+atom-returns-then-text-at-eq40 t c =
+    let p = c.requires.0 in answer_inner p (byte_here _ _ p.inside) c.if-text-at-eq40.true c.expr-inner.ensures (record { nexts = refl; counts = refl; nulls = refl })
 
 -- ---- a factor
 
@@ -59,7 +63,7 @@ branch-loop-all-preserved t c =
     let b = c.loop-all.invariant.3 in
     let e = c.factor-next.ensures in
     let m = c.beside-all.ensures in
-    let on = stop_told c.args.text.now c.byte_at.ensures.0 m.nexts c.ends_branch.ensures c.if-ends_branch.false in (
+    let on = stop_told c.args.text.now c.byte_at.ensures m.nexts c.ends_branch.ensures c.if-ends_branch.false in (
       omega (arith, e.on, m.nexts, c.loop-all.invariant.0),
       omega (arith, e.inside, m.nexts),
       search rules,
@@ -71,7 +75,7 @@ branch-returns-then-ends_branch t c =
     let b = c.loop-all.invariant.3 in
     let p = c.requires.0 in
     let m = c.beside-all.ensures in
-    let end = stop_told c.args.text.now c.byte_at.ensures.0 m.nexts c.ends_branch.ensures c.if-ends_branch.true in
+    let end = stop_told c.args.text.now c.byte_at.ensures m.nexts c.ends_branch.ensures c.if-ends_branch.true in
     parts_found branches b c.factor-next.ensures (join_factor (going_small branches p b) m) p m.nexts (λ z. false≢true (sym z ∙ end))
 
 -- ---- an expression
@@ -86,26 +90,20 @@ expr-branch-next-requires t c =
     let p = c.requires.0 in
     (omega arith, (ready_part exprs p (going exprs p c.loop-all.invariant.3), search rules))
 
-pub expr-loop-all-smaller : goal.expr-loop-all-smaller
-expr-loop-all-smaller t c =
-    let e = c.branch-next.ensures in
-    omega (arith, e.on, e.inside, c.either-all.ensures.nexts, c.moved-all.ensures.nexts)
-
 pub expr-loop-all-preserved : goal.expr-loop-all-preserved
 expr-loop-all-preserved t c =
     let s = c.args.text.now in
     let e = c.branch-next.ensures in
     let m = c.either-all.ensures in
-    let n = c.moved-all.ensures in
-    let bar = sym (c.byte_at.ensures.0 ∙ ap (byte s) m.nexts) ∙ c.if-byte_at-ne-BAR.false in (
-      omega (arith, e.on, m.nexts, n.nexts, c.loop-all.invariant.0),
-      omega (arith, m.nexts, n.nexts, inside s c.branch-next.result.next (λ z. omega (arith, bar, z))),
+    let bar = sym (c.byte_at.ensures ∙ ap (byte s) m.nexts) ∙ was_byte c.byte_at.result (code "|") (sym (rw not-not at (ap not c.if-ne.ensures))) in (
+      omega (arith, e.on, m.nexts, c.loop-all.invariant.0),
+      omega (arith, m.nexts, inside s c.branch-next.result.next (λ z. omega (arith, bar, z))),
       omega (arith, c.loop-all.invariant.2, c.branch-next.auto.words),
-      parts_more exprs c.loop-all.invariant.3 e (λ so t x z. right_moved (join_branch m so t x z) n) (n.nexts ∙ ap (λ n. n + 1) m.nexts) bar,
+      parts_more exprs c.loop-all.invariant.3 e (λ so t x z. right_moved (join_branch m so t x z) (record { nexts = refl; counts = refl; nulls = refl })) (ap (λ n. n + 1) m.nexts) bar,
     )
 
-pub expr-returns-then-byte_at-ne-BAR : goal.expr-returns-then-byte_at-ne-BAR
-expr-returns-then-byte_at-ne-BAR t c =
+pub expr-returns-then-ne : goal.expr-returns-then-ne
+expr-returns-then-ne t c =
     let m = c.either-all.ensures in
     parts_found exprs c.loop-all.invariant.3 c.branch-next.ensures (join_branch m) c.requires.0 m.nexts
-    (λ z. c.if-byte_at-ne-BAR.true (c.byte_at.ensures.0 ∙ ap (byte c.args.text.now) m.nexts ∙ z))
+    (λ z. no_byte c.byte_at.result (code "|") (omega arith) (sym (rw not-not at (ap not c.if-ne.ensures))) (c.byte_at.ensures ∙ ap (byte c.args.text.now) m.nexts ∙ z))

@@ -1,5 +1,4 @@
 -- The invariant: the words passed are what both sets' words have.
-use Prim.Native.Nat.{◌≤◌, ◌-◌}
 use mathlib.Core.Path.{◌≡◌}
 use lib.ListN.{length, get_or, replicate}
 use lib.Bits.{bit_and}
@@ -8,7 +7,4 @@ use Rattle.scope.specs.Operations.Buffers.{Written}
 use Rattle.sets.proofs.Set.common.Given as goal
 
 abbrev pub invariant-loop-i : goal.invariant-loop-i
-invariant-loop-i l = (l.i ≤ set_words) × (length l.r ≡ set_words) × Written l.i (λ x. bit_and (get_or l.self.words x 0) (get_or l.other.words x 0)) (replicate set_words 0) l.r
-
-abbrev pub decreases-loop-i : goal.decreases-loop-i
-decreases-loop-i l = set_words - l.i
+invariant-loop-i l = (length l.r ≡ set_words) × Written l.i (λ x. bit_and (get_or l.self.words x 0) (get_or l.other.words x 0)) (replicate set_words 0) l.r

@@ -1,15 +1,13 @@
-use mathlib.Core.Path.{refl}
+use mathlib.Core.Path.{◌≡◌}
 use native.Mathlib.Omega.{arith}
-use borrow.Author.Rules.{rules}
-use Rattle.buffers.proofs.OneMore.{written_start, written_more}
-use Rattle.sets.proofs.Words.{value_or}
+use Rattle.scope.specs.Limits.{set_words}
+use Rattle.sets.proofs.Words.{value_or, or_fits}
 use Rattle.sets.proofs.Set.joined.Goals as goal
 
-pub loop-i-init : goal.loop-i-init
-loop-i-init c = (search rules, refl, written_start _ _)
-
-pub loop-i-preserved : goal.loop-i-preserved
-loop-i-preserved c = let l = c.loop-i in (search rules, search rules, written_more _ _ _ _ _ (omega arith) refl l.invariant.2)
+pub invariant_of-result : goal.invariant_of-result
+invariant_of-result c =
+    let e : c.loop-i.i ≡ set_words = omega arith in
+    record { long = c.loop-i.invariant.0; fits = or_fits c.args.self c.args.other (rw e at c.loop-i.invariant.1) c.loop-i.invariant.0 }
 
 pub returns : goal.returns
-returns c = value_or _ _ _ (λ x h. c.loop-i.invariant.2.inside x (omega arith))
+returns c = let e : c.loop-i.i ≡ set_words = omega arith in value_or _ _ (rw e at c.loop-i.invariant.1)
