@@ -14,6 +14,7 @@ use Rattle.scope.specs.declared.Machine.{Machine}
 use Rattle.scope.specs.Machines.Room.{states_of, classes_of}
 use Rattle.answers.specs.declared.CompileRefusal.{CompileRefusal}
 use Rattle.answers.specs.Numbers.{compile_refusal_number, compile_refusal_place}
+use Rattle.put_lines.specs.declared.sides.Refused.{Refused}
 use Rattle.put_lines.specs.Printing.{side_of, outcome}
 use Rattle.put_lines.proofs.Lining.{refused_number}
 use Rattle.alike_report.specs.Report.{Compiling, compiling, Comparing, comparing}
@@ -37,11 +38,14 @@ module _ {text before room bytes bytes' words words' : List ℕ} where
   kept (many_sets f s k n r) h = r.kept
   kept (compiled f s k n c e t r) h = absurd (h refl)
 
-  pub compiling_refused : (refusal : CompileRefusal) → Lent before bytes words
+  pub compiling_refused : (refused : Refused) (refusal : CompileRefusal)
+      → (refused.number ≡ compile_refusal_number refusal) × (refused.place ≡ compile_refusal_place refusal) → Lent before bytes words
       → Compiles text before room bytes bytes' words words' (compile_refusal_number refusal) (compile_refusal_place refusal)
-      → (states_of before ≡ 0) × (classes_of before ≡ 0) → Compiling text room (side_of (Err refusal))
-  compiling_refused refusal l c (s, k) =
-      let same = kept c (refused_number refusal) in compiling l c (rw same (sym s)) (rw same (sym k))
+      → (states_of before ≡ 0) × (classes_of before ≡ 0) → Compiling text room (side_of (Err refused))
+  compiling_refused refused refusal (n, p) l c (s, k) = let same = kept c (refused_number refusal) in compiling l compiles (rw same (sym s)) (rw same (sym k))
+    where
+      compiles : Compiles text before room bytes bytes' words words' refused.number refused.place
+      compiles = rw (n, p) c
 
 -- ---- the comparison
 

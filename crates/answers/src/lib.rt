@@ -3,7 +3,7 @@
 
 ghost use Rattle.std.specs.Prelude.{◌≡◌, ℕ};
 ghost use Rattle.scope.specs.Answers.{DONE};
-ghost use Rattle.answers.specs.Numbers.{refusal_number, compile_refusal_number, compile_refusal_place, matched_value_number, matched_value_place, compared_value_number, compared_value_length, compared_value_rounds, of_fault, of_excess, result_number};
+ghost use Rattle.answers.specs.Numbers.{refusal_number, compile_refusal_number, compile_refusal_place, matched_value_number, matched_value_place, compared_value_number, compared_value_length, compared_value_rounds, compared_rounds, of_fault, of_excess, result_number};
 
 // Why an operation on rooms is refused: a buffer is too short, or a room or a form is not what it has to be.
 #[derive(Clone, Copy, PartialEq, Eq)]
@@ -92,6 +92,13 @@ impl Compared {
             Compared::Separated(_, rounds) => rounds,
         }
     }
+}
+
+// The rounds of what comparing answered, 0 for a refusal.
+pub fn rounds_of(answer: Result<Compared, Refusal>) -> usize
+    ensures { result ≡ compared_rounds answer }
+{
+    answer.map_or(0, |compared| compared.rounds())
 }
 
 // What is told of an answer in numbers: which it is, and the place or length that comes with it, 0 where none does. The C interface returns these numbers, which

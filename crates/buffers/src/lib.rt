@@ -15,12 +15,15 @@ pub fn fill(m: &mut [u8], from: usize, to: usize, v: u8)
     m[from..to].fill(v);
 }
 
-// Copies the first n bytes, and says so as `Written`, which parts put together by the library do not.
+// Copies the first n bytes, and says so as `Written`, which parts put together by the library do not. The library's copy of slices becomes a call of `memmove` where n is known,
+// which an archive would then need from outside.
 pub fn copy(from: &[u8], to: &mut [u8], n: usize)
     requires { (n ≤ length from.now) × (n ≤ length to.old) }
     ensures { Written n (λ i. get_or from.now i 0) to.old to.new }
 {
-    to[..n].copy_from_slice(&from[..n]);
+    for i in 0..n {
+        to[i] = from[i];
+    }
 }
 
 // Writes the class of each byte into a machine room.

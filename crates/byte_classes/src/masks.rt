@@ -1,5 +1,5 @@
 // For each class the positions that hold its bytes.
-ghost use Rattle.std.specs.Prelude.{◌≡◌, ◌<◌};
+ghost use Rattle.std.specs.Prelude.{◌≡◌, ℕ, ◌<◌};
 ghost use Rattle.scope.specs.Limits.{byte_values};
 ghost use Rattle.sets.specs.Value.{set_value};
 ghost use Rattle.byte_classes.specs.Group.{own_place, Grouped};
@@ -33,7 +33,7 @@ pub fn class_masks(
     masks: &mut [u64; Machine::CLASSES * Machine::SET_WORDS],
 )
     requires runs_of { RunsOf (Like sets.bytes.now sets.count) ends.words }
-    requires grouped { Grouped (Like sets.bytes.now sets.count) own_place groups.now.map groups.now.classes }
+    requires grouped { (k : ℕ) × Grouped (Like sets.bytes.now sets.count) own_place groups.now.map k }
     ensures { Masked sets.entry.bytes.now sets.entry.count groups.now.map masks.new byte_values }
 {
     let mut n = 0;

@@ -38,7 +38,7 @@ pub fn of_bytes(room: &Table, sort: &[u8; Machine::BYTES], class: &mut [u8; Mach
     ensures { ColumnMap room.now sort.now class.new }
 {
     if smallest_plan::is_same_order(&sort[..room.head().classes]) {
-        class.copy_from_slice(room.classes());
+        buffers::copy(room.classes(), class, Machine::BYTES);
     } else {
         for (byte, &column) in room.classes().iter().enumerate() {
             class[byte] = sort[column as usize];

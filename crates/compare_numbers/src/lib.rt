@@ -19,6 +19,6 @@ pub fn compare(
 {
     let compared = compare::compare(left, right, word, bytes, words);
     *length = compared.value();
-    *rounds = compared.map_or(0, |compared| compared.rounds());
+    *rounds = answers::rounds_of(compared);
     compared.number()
 }

@@ -23,7 +23,8 @@ use Rattle.scope.specs.declared.Machine.{Machine}
 use Rattle.answers.specs.declared.CompileRefusal.{CompileRefusal}
 use Rattle.answers.specs.declared.Refusal.{Refusal}
 use Rattle.answers.specs.declared.Compared.{Compared}
-use Rattle.answers.specs.Numbers.{compile_refusal_number, compile_refusal_place, compared_number, compared_rounds}
+use Rattle.answers.specs.Numbers.{compile_refusal_number, compared_number, compared_rounds}
+use Rattle.put_lines.specs.declared.sides.Refused.{Refused}
 use Rattle.put_lines.specs.Printing.{side_of, outcome, counted, told, same, separated}
 use Rattle.line_pieces.proofs.Numerals.{number_short}
 
@@ -63,8 +64,8 @@ told_refused a e = rw (ne_eqb a.number DONE e)
 pub told_ok : (m : Machine) → told (side_of (Ok m)) ≡ counted (ascii " states ") m.states (ascii " classes ") m.classes
 told_ok m = told_done (side_of (Ok m)) refl
 
-pub told_err : (e : CompileRefusal) → told (side_of (Err e)) ≡ counted (ascii " refused ") (compile_refusal_number e) (ascii " at ") (compile_refusal_place e)
-told_err e = told_refused (side_of (Err e)) (refused_number e)
+pub told_err : (e : Refused) → told (side_of (Err e)) ≡ counted (ascii " refused ") e.number (ascii " at ") e.place
+told_err e = told_refused (side_of (Err e)) e.refused
 
 outcome_same : (c : Outcome) → c.number ≡ SAME → outcome_lines c ≡ same c.rounds
 unfolding outcome_lines
@@ -112,15 +113,15 @@ unfolding behind
 printed_both l r c d e = printed_pieces l r c ∙ rw (eq-eqb l.number DONE d, eq-eqb r.number DONE e)
 
 -- the same by what compiling the sides answered
-ok_number : (s : Result Machine CompileRefusal) → is_ok s ≡ true → (side_of s).number ≡ DONE
+ok_number : (s : Result Machine Refused) → is_ok s ≡ true → (side_of s).number ≡ DONE
 ok_number (Ok machine) h = refl
 ok_number (Err refusal) h = cc
 
-err_number : (s : Result Machine CompileRefusal) → is_ok s ≡ false → (side_of s).number ≡ DONE → ⊥
+err_number : (s : Result Machine Refused) → is_ok s ≡ false → (side_of s).number ≡ DONE → ⊥
 err_number (Ok machine) h = cc
-err_number (Err refusal) h = refused_number refusal
+err_number (Err refused) h = refused.refused
 
-module _ (l r : Result Machine CompileRefusal) (c : Outcome) where
+module _ (l r : Result Machine Refused) (c : Outcome) where
   pub printed_ok : is_ok l ≡ true → is_ok r ≡ true → printed (side_of l) (side_of r) c ≡ ((ascii "left" ++ told (side_of l)) ++ (ascii "right" ++ told (side_of r))) ++ outcome_lines c
   printed_ok d e = printed_both (side_of l) (side_of r) c (ok_number l d) (ok_number r e)
 

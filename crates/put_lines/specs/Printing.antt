@@ -10,13 +10,12 @@ use Rattle.scope.specs.Answers.{DONE}
 use Rattle.scope.specs.Lines.{Outcome, decimal, shown}
 use Rattle.scope.specs.Lines as lines
 use Rattle.scope.specs.declared.Machine.{Machine}
-use Rattle.answers.specs.declared.CompileRefusal.{CompileRefusal}
-use Rattle.answers.specs.Numbers.{compile_refusal_number, compile_refusal_place}
+use Rattle.put_lines.specs.declared.sides.Refused.{Refused}
 
 -- the machine has a number and a place like every answer; a refused side has neither states nor classes
-abbrev pub side_of : Result Machine CompileRefusal → lines.Side
+abbrev pub side_of : Result Machine Refused → lines.Side
 side_of (Ok machine) = record { number = DONE; place = 0; states = machine.states; classes = machine.classes }
-side_of (Err refusal) = record { number = compile_refusal_number refusal; place = compile_refusal_place refusal; states = 0; classes = 0 }
+side_of (Err refused) = record { number = refused.number; place = refused.place; states = 0; classes = 0 }
 
 abbrev pub outcome : ℕ → ℕ → List ℕ → Outcome
 outcome number rounds word = record { number = number; rounds = rounds; word = word }

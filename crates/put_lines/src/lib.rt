@@ -9,9 +9,12 @@ ghost use Rattle.line_pieces.specs.Appended.{Appended};
 ghost use Rattle.line_pieces.specs.Lines.{RoomFor, PutBehind};
 ghost use Rattle.put_lines.specs.Printing.{side_of, outcome, counted, told, same, separated};
 
-use answers::{Compared, CompileRefusal, Numbered, Refusal};
+mod sides;
+
+use answers::{Compared, Refusal};
 use line_pieces::Lines;
 use scope::Machine;
+pub use sides::Refused;
 
 // How many bytes two numbers and a line end have at most: a number has at most 20 digits.
 const COUNTS: usize = 20 + 20 + 1;
@@ -26,8 +29,8 @@ const OUTCOME_LINES: usize = 73;
 // How many bytes the program's lines take at most. Each byte of the string is shown as two.
 pub const LINES: usize = SIDE_LINE + SIDE_LINE + OUTCOME_LINES + Machine::WORD * 2;
 
-// What compiling one side answered: the head of its room, or why it is refused.
-pub type Side = Result<Machine, CompileRefusal>;
+// What compiling one side answered: the head of its room, or how it is refused.
+pub type Side = Result<Machine, Refused>;
 
 // Puts two numbers, each behind its text, and a line end.
 #[tactic(auto, using(line_pieces::proofs::Numerals::number_short))]
@@ -58,12 +61,12 @@ fn put_side(lines: &mut Lines, name: &[u8], side: Side)
             b" classes ",
             machine.classes,
         ),
-        Err(refusal) => put_counts(
+        Err(refused) => put_counts(
             lines,
             b" refused ",
-            refusal.number() as usize,
+            refused.number as usize,
             b" at ",
-            refusal.value(),
+            refused.place,
         ),
     }
 }

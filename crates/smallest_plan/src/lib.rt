@@ -14,7 +14,7 @@ use scope::Machine;
 
 // The states of the smallest machine: for each of the first `count` numbers one of the room's states, and for each of the room's states its number. There is no heap: `order`
 // is the room of a list, and `count` its length.
-#[derive(Drop)]
+#[derive(Clone, Copy)]
 pub struct States {
     pub order: [u8; Machine::STATES],
     pub into: [u8; Machine::STATES],
@@ -22,7 +22,7 @@ pub struct States {
 }
 
 // Its classes: that of each byte, and for each of the first `count` one of the room's classes, in a list like that of the states.
-#[derive(Drop)]
+#[derive(Clone, Copy)]
 pub struct Classes {
     pub class: [u8; Machine::BYTES],
     pub leader: [u8; Machine::BYTES],
@@ -30,7 +30,7 @@ pub struct Classes {
 }
 
 // The smallest machine of a room.
-#[derive(Drop)]
+#[derive(Clone, Copy)]
 pub struct Plan {
     pub states: States,
     pub classes: Classes,

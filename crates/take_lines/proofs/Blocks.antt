@@ -6,14 +6,14 @@
 --   takes_none, takes_join: no byte more, and two blocks
 --   takes_end, takes_first, takes_second: one byte, by what it is and to which line it belongs
 --   takes_over: nothing is taken once both lines are ended
---   takes_more, takes_whole: a block that is taken up to its byte i: one byte more, and no more bytes
+--   takes_more, takes_rest, takes_whole: a block that is taken up to its byte i: one byte more, none more, and no more bytes
 --   takes_one: the answer and the buffers are determined
 use Prim.Native.Nat.{ℕ, suc, ◌+◌, ◌≤◌, ◌<◌, min, max}
 use mathlib.Core.Path.{◌≡◌, refl, sym, ap, ◌∙◌, subst}
 use mathlib.Core.List.{List, [], ◌∷◌, ◌++◌, append-nil, append_assoc}
 use native.Mathlib.Omega.{arith}
 use native.Mathlib.Numerals.{add-one}
-use lib.ListN.{length, take, set, get_or, length-append, length-set}
+use lib.ListN.{length, take, drop, set, get_or, length-append, length-set, take-append-drop}
 use lib.Seq.{take_all, take-suc, take-suc-set, take-append-le, get_or-set_other, get_or-take}
 use Rattle.scope.specs.Limits.{pattern_limit}
 use Rattle.scope.specs.Operations.Buffers.{TailKept}
@@ -146,8 +146,8 @@ takes_second b n t l {r} {r'} e here k =
           };
     }
 
-pub takes_over : (b : ℕ) (t : Taking) (l r : List ℕ) → t.line ≡ Line.Further → TakesBlock (b ∷ []) t t l l r r
-takes_over b t l r here =
+pub takes_over : (v : List ℕ) (t : Taking) (l r : List ℕ) → t.line ≡ Line.Further → TakesBlock v t t l l r r
+takes_over v t l r here =
     record {
       left_grown = grown_none t.first l;
       right_grown = grown_none t.second r;
@@ -155,9 +155,9 @@ takes_over b t l r here =
           let at : ended t.line ≡ 2 = ap ended here in
           let two : 2 ≤ line_ends s = omega (arith, h.line) in
           record {
-            line = omega (arith, h.line, ends_join s (b ∷ []));
-            first = rw (first_over s (b ∷ []) (omega arith)) h.first;
-            second = rw (second_over s (b ∷ []) two) h.second;
+            line = omega (arith, h.line, ends_join s v);
+            first = rw (first_over s v (omega arith)) h.first;
+            second = rw (second_over s v two) h.second;
           };
     }
 
@@ -166,6 +166,9 @@ takes_over b t l r here =
 module _ {t p : Taking} {a b d e : List ℕ} (block : List ℕ) (i : ℕ) (x : TakesBlock (take i block) t p a b d e) where
   pub takes_more : {q : Taking} {c f : List ℕ} → i < length block → TakesBlock (get_or block i 0 ∷ []) p q b c e f → TakesBlock (take (i + 1) block) t q a c d f
   takes_more h y = rw (add-one i, take-suc block i 0) (takes_join x y)
+
+  pub takes_rest : p.line ≡ Line.Further → TakesBlock block t p a b d e
+  takes_rest over = subst (λ (u : List ℕ). TakesBlock u t p a b d e) (take-append-drop i block) (takes_join x (takes_over (drop i block) p b e over))
 
   pub takes_whole : length block ≤ i → TakesBlock block t p a b d e
   takes_whole h = subst (λ (u : List ℕ). TakesBlock u t p a b d e) (take_all i block h) x

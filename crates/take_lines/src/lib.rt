@@ -85,13 +85,16 @@ fn take_byte(t: Taking, byte: u8, left: &mut [u8], right: &mut [u8]) -> Taking
     }
 }
 
-// Takes one block of the input: the bytes of the two lines go into `left` and `right`.
+// Takes one block of the input: the bytes of the two lines go into `left` and `right`, and those behind them are not looked at.
 pub fn take_block(t: Taking, block: &[u8], left: &mut [u8], right: &mut [u8]) -> Taking
     requires { (pattern_limit ≤ length left.old) × (pattern_limit ≤ length right.old) }
     ensures { TakesBlock block.now t result left.old left.new right.old right.new }
 {
     let mut so_far = t;
     for &byte in block {
+        if let Line::Further = so_far.line {
+            return so_far;
+        }
         so_far = take_byte(so_far, byte, left, right);
     }
     so_far

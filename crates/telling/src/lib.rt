@@ -43,9 +43,10 @@ fn mark_next(room: &SoundRoom, q: usize, expected: &mut [u8; Machine::BYTES])
     ensures { LiveNext room.now q expected.new }
 {
     let table = room.table();
-    for class in 0..table.head().classes as u8 {
-        let next = table.cell(q, class);
-        mark_class(table, class, mark(room, next), expected);
+    // A class is cut to a byte where it is used: counted as one, it would be held against the class of each byte at eight bytes each.
+    for class in 0..table.head().classes {
+        let next = table.cell(q, class as u8);
+        mark_class(table, class as u8, mark(room, next), expected);
     }
 }
 

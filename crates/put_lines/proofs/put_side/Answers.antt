@@ -9,5 +9,4 @@ returns-in-Ok c = rw (c.in-Ok.is, told_ok) (record { put = put_join c.text.ensur
 
 pub returns-in-Err : goal.returns-in-Err
 returns-in-Err c =
-    let counts = rw (c.number.ensures, c.value.ensures) at c.put_counts-in-Err.ensures in
-    rw (c.in-Err.is, told_err) (record { put = put_join c.text.ensures counts.put; short = omega (arith, counts.short) })
+    rw (c.in-Err.is, told_err) (record { put = put_join c.text.ensures c.put_counts-in-Err.ensures.put; short = omega (arith, c.put_counts-in-Err.ensures.short) })

@@ -1,4 +1,4 @@
--- The bytes of the block so far are taken.
+-- The bytes of the block so far are taken. Once both lines are ended, the rest changes nothing.
 use lib.ListN.{take}
 use Rattle.take_lines.specs.Taking.{TakesBlock}
 use Rattle.take_lines.proofs.take_block.Given as goal

@@ -1,4 +1,5 @@
 -- By what the byte is: a line end, or a byte of the first, of the second or of a further line.
+use mathlib.Core.List.{[], ◌∷◌}
 use Rattle.take_lines.proofs.Blocks.{takes_end, takes_first, takes_second, takes_over}
 use Rattle.take_lines.proofs.take_byte.Goals as goal
 
@@ -12,4 +13,4 @@ pub returns-in-Second : goal.returns-in-Second
 returns-in-Second c = takes_second c.args.byte c.keep-in-Second.result c.args.t c.args.left.now c.if-byte-eq10.false c.in-Second.is c.keep-in-Second.ensures
 
 pub returns-in-Further : goal.returns-in-Further
-returns-in-Further c = takes_over c.args.byte c.args.t c.args.left.now c.args.right.now c.in-Further.is
+returns-in-Further c = takes_over (c.args.byte ∷ []) c.args.t c.args.left.now c.args.right.now c.in-Further.is

@@ -10,18 +10,18 @@ pub loop-from-init : goal.loop-from-init
 loop-from-init c = (omega arith, masking_none _ _ _ _ c.told-masks)
 
 pub store-requires : goal.store-requires
-store-requires c = omega (arith, group_below c.requires.grouped c.end_of-b.result c.end_of-b.ensures.byte, c.loop-from.invariant.1.masked.size)
+store-requires c = omega (arith, group_below c.requires.grouped.1 c.end_of-b.result c.end_of-b.ensures.byte, c.loop-from.invariant.1.masked.size)
 
 pub overflow_add-n : goal.overflow_add-n
-overflow_add-n c = omega (arith, group_below c.requires.grouped c.end_of-b.result c.end_of-b.ensures.byte)
+overflow_add-n c = omega (arith, group_below c.requires.grouped.1 c.end_of-b.result c.end_of-b.ensures.byte)
 
 pub loop-from-preserved : goal.loop-from-preserved
 loop-from-preserved c = (
   omega (arith, c.end_of-b.ensures.byte),
   elim c.if-class-n.branch [
     | then-class-n w ↦ rw (w.masks-is, w.n-is)
-        (masking_new c.requires.runs_of c.requires.grouped c.end_of-b.ensures c.loop-from.invariant.1 w.if-class-n.true w.byte_mask.ensures w.store.ensures)
-    | else-class-n w ↦ rw (w.masks-is, w.n-is) (masking_old c.requires.runs_of c.requires.grouped c.end_of-b.ensures c.loop-from.invariant.1 w.if-class-n.false)
+        (masking_new c.requires.runs_of c.requires.grouped.1 c.end_of-b.ensures c.loop-from.invariant.1 w.if-class-n.true w.byte_mask.ensures w.store.ensures)
+    | else-class-n w ↦ rw (w.masks-is, w.n-is) (masking_old c.requires.runs_of c.requires.grouped.1 c.end_of-b.ensures c.loop-from.invariant.1 w.if-class-n.false)
   ],
 )
 
