@@ -11,7 +11,6 @@
 
 mod rooms;
 mod show;
-mod written;
 
 ghost use Rattle.std.specs.Prelude.{◌≤◌, length, IfOk};
 
@@ -19,37 +18,28 @@ use answers::{Compared, Matched, Numbered};
 use scope::Machine;
 use std::io;
 use std::io::{Read, Stdin, Stdout, Write};
-use written::Written;
 
 // How many bytes of the input are read at most.
 const INPUT: usize = 65536;
 
 // Compiles a pattern.
-fn compiles(out: &mut Stdout, pattern: &[u8], written: &mut Written) -> io::Result<()> {
-    written.room.fill(0);
-    written.dirty();
-    match compile::compile(
-        pattern,
-        &mut written.room,
-        &mut written.bytes,
-        &mut written.words,
-    ) {
-        Ok(()) => show::sizes(out, &written.room),
+fn compiles(out: &mut Stdout, pattern: &[u8]) -> io::Result<()> {
+    let mut room = [0u8; Machine::ROOM];
+    let mut bytes = [7u8; Machine::SCRATCH_BYTES];
+    let mut words = [7u64; Machine::SCRATCH_WORDS];
+    match compile::compile(pattern, &mut room, &mut bytes, &mut words) {
+        Ok(()) => show::sizes(out, &room),
         Err(refusal) => write!(out, "refused {} at {}", refusal.number(), refusal.value()),
     }
 }
 
 // Minimises a room.
-fn minimises(out: &mut Stdout, from: &[u8], written: &mut Written) -> io::Result<()> {
-    written.room.fill(7);
-    written.dirty();
-    match smallest::minimise(
-        from,
-        &mut written.room,
-        &mut written.bytes,
-        &mut written.words,
-    ) {
-        Ok(()) => show::sizes(out, &written.room),
+fn minimises(out: &mut Stdout, from: &[u8]) -> io::Result<()> {
+    let mut to = [7u8; Machine::ROOM];
+    let mut bytes = [7u8; Machine::SCRATCH_BYTES];
+    let mut words = [7u64; Machine::SCRATCH_WORDS];
+    match smallest::minimise(from, &mut to, &mut bytes, &mut words) {
+        Ok(()) => show::sizes(out, &to),
         Err(refusal) => show::refused(out, &refusal),
     }
 }
@@ -69,17 +59,12 @@ fn matches_text(out: &mut Stdout, room: &[u8], given: &[u8]) -> io::Result<()> {
 }
 
 // Compares a room with that of a name or a pattern.
-fn compares(out: &mut Stdout, left: &[u8], given: &[u8], written: &mut Written) -> io::Result<()> {
-    let right = rooms::room_of(given, written);
+fn compares(out: &mut Stdout, left: &[u8], given: &[u8]) -> io::Result<()> {
+    let right = rooms::room_of(given);
     let mut word = [7u8; Machine::WORD];
-    written.dirty();
-    match compare::compare(
-        left,
-        right.bytes(),
-        &mut word,
-        &mut written.bytes,
-        &mut written.words,
-    ) {
+    let mut bytes = [7u8; Machine::SCRATCH_BYTES];
+    let mut words = [7u64; Machine::SCRATCH_WORDS];
+    match compare::compare(left, right.bytes(), &mut word, &mut bytes, &mut words) {
         Ok(Compared::Same(rounds)) => write!(out, "same rounds {rounds}"),
         Ok(Compared::Separated(length, rounds)) => {
             write!(out, "separated ")?;
@@ -91,70 +76,52 @@ fn compares(out: &mut Stdout, left: &[u8], given: &[u8], written: &mut Written) 
 }
 
 // Packs a room.
-fn packs(out: &mut Stdout, room: &[u8], written: &mut Written) -> io::Result<()> {
-    written.room.fill(7);
-    written.dirty();
-    match packing::pack(
-        room,
-        &mut written.room,
-        &mut written.bytes,
-        &mut written.words,
-    ) {
+fn packs(out: &mut Stdout, room: &[u8]) -> io::Result<()> {
+    let mut form = [7u8; Machine::ROOM];
+    let mut bytes = [7u8; Machine::SCRATCH_BYTES];
+    let mut words = [7u64; Machine::SCRATCH_WORDS];
+    match packing::pack(room, &mut form, &mut bytes, &mut words) {
         Ok(length) => write!(out, "bytes {length}"),
         Err(refusal) => show::refused(out, &refusal),
     }
 }
 
 // Answers an operation on a room, and on what else it is given.
-fn asks_room(
-    out: &mut Stdout,
-    operation: &[u8],
-    room: &[u8],
-    other: &[u8],
-    written: &mut Written,
-) -> io::Result<()> {
+fn asks_room(out: &mut Stdout, operation: &[u8], room: &[u8], other: &[u8]) -> io::Result<()> {
     match operation {
         b"table" => show::table(out, room),
-        b"minimise" => minimises(out, room, written),
+        b"minimise" => minimises(out, room),
         b"match" => matches_text(out, room, other),
-        b"compare" => compares(out, room, other, written),
-        b"pack" => packs(out, room, written),
+        b"compare" => compares(out, room, other),
+        b"pack" => packs(out, room),
         _ => Ok(()),
     }
 }
 
 // Answers an operation on what it is given.
-fn asks(
-    out: &mut Stdout,
-    operation: &[u8],
-    given: &[u8],
-    other: &[u8],
-    written: &mut Written,
-) -> io::Result<()> {
+fn asks(out: &mut Stdout, operation: &[u8], given: &[u8], other: &[u8]) -> io::Result<()> {
     if let b"compile" = operation {
-        return compiles(out, given, written);
+        return compiles(out, given);
     }
-    let room = rooms::room_of(given, written);
-    asks_room(out, operation, room.bytes(), other, written)
+    asks_room(out, operation, rooms::room_of(given).bytes(), other)
 }
 
 // Answers a question.
-fn answers(out: &mut Stdout, line: &[u8], written: &mut Written) -> io::Result<()> {
+fn answers(out: &mut Stdout, line: &[u8]) -> io::Result<()> {
     let mut parts = line.splitn(3, |byte| *byte == b' ');
     let operation = parts.next().unwrap_or(b"");
     let given = parts.next().unwrap_or(b"");
     let other = parts.next().unwrap_or(b"");
-    asks(out, operation, given, other, written)
+    asks(out, operation, given, other)
 }
 
 // Prints every question and its answer.
 fn print_lines(out: &mut Stdout, input: &[u8]) -> io::Result<()> {
-    let mut written = Written::new();
     for whole in input.split_inclusive(|byte| *byte == b'\n') {
         let line = whole.strip_suffix(b"\n").unwrap_or(whole);
         out.write_all(line)?;
         write!(out, " -> ")?;
-        answers(out, line, &mut written)?;
+        answers(out, line)?;
         writeln!(out)?;
     }
     Ok(())
